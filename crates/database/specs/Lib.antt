@@ -1,0 +1,4 @@
+pub mod Lists
+pub mod States
+pub mod Databases
+pub mod Writes

@@ -1,0 +1,86 @@
+// The pinned moments of a store.
+ghost use mathlib.Core.Path.{_≡_};
+ghost use mathlib.Core.Bool.{true, false, _||_, not};
+ghost use mathlib.Core.List.{[]};
+ghost use Prim.Native.Nat.{_≤_};
+ghost use lib.Dec.{eqb, ltb};
+ghost use lib.ListN.{length};
+ghost use Rattle.std.specs.Of.Vec.{vec-items, vec-len, vec-cap};
+ghost use Rattle.std.specs.Vec.{made};
+ghost use Rattle.database.specs.Lists.{among, distinct, added, without};
+use crate::retain::Test;
+use crate::retain::retain;
+use std::alloc::AllocError;
+use std::alloc::Global;
+use terms::Moment;
+
+// At most 32 moments, each once. Their room is reserved at the making.
+#[derive(Drop)]
+pub struct Pins {
+    moments: Vec<Moment>,
+    ghost few: { vec-len moments ≤ 32 },
+    ghost room: { 32 ≤ vec-cap moments },
+    ghost once: { distinct (vec-items moments) ≡ true },
+}
+
+// Every moment but one.
+#[derive(Drop)]
+struct Other {
+    moment: Moment,
+}
+
+impl Test<Moment> for Other as OtherTest {
+    ghost passed = { λ s x. not (eqb x (s .moment)) };
+
+    fn passes(&self, x: Moment) -> bool {
+        x != self.moment
+    }
+}
+
+impl Pins {
+    pub fn new(heap: Global) -> Result<Pins, AllocError>
+        ensures { λ r. ⌜ made r (λ p. vec-items (p .moments) ≡ []) ⌝ }
+    {
+        let moments = Vec::with_capacity(heap, 32)?;
+        Ok(Pins { moments })
+    }
+
+    pub fn contains(&self, moment: Moment) -> bool
+        ensures { λ r. ⌜ r ≡ among moment (vec-items (now (self .entry) .moments)) ⌝ }
+    {
+        for pinned in self.moments.iter() {
+            if moment == *pinned {
+                return true;
+            }
+        }
+        false
+    }
+
+    // Adds a moment that is not there; false, and nothing changed, where 32 others are.
+    pub fn add(&mut self, moment: Moment) -> bool
+        ensures can { λ r. ⌜ r ≡ (among moment (vec-items (now (self .entry) .moments)) || ltb (length (vec-items (now (self .entry) .moments))) 32) ⌝ }
+        ensures added { λ r. ⌜ (r ≡ true → vec-items (now (self .exit) .moments) ≡ added moment (vec-items (now (self .entry) .moments))) ⌝ }
+        ensures same { λ r. ⌜ (r ≡ false → now (self .exit) ≡ now (self .entry)) ⌝ }
+    {
+        if self.contains(moment) {
+            return true;
+        }
+        if self.moments.len() >= 32 {
+            return false;
+        }
+        self.moments.push_reserved(moment);
+        true
+    }
+
+    pub fn remove(&mut self, moment: Moment)
+        ensures { λ _. ⌜ vec-items (now (self .exit) .moments) ≡ without moment (vec-items (now (self .entry) .moments)) ⌝ }
+    {
+        retain(&mut self.moments, &Other { moment });
+    }
+
+    pub fn clear(&mut self)
+        ensures { λ _. ⌜ vec-items (now (self .exit) .moments) ≡ [] ⌝ }
+    {
+        self.moments.clear();
+    }
+}

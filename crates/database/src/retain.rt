@@ -1,0 +1,28 @@
+// Keeps in a `Vec` what passes a test, in its order and in its place.
+ghost use mathlib.Core.Path.{_≡_};
+ghost use mathlib.Core.Bool.{Bool};
+ghost use Rattle.std.specs.shelf.Lists.{kept-by};
+ghost use Rattle.std.specs.Of.Vec.{vec-items, vec-cap};
+
+// A test of elements.
+pub trait Test<T> {
+    ghost passed: { Self → T → Bool };
+
+    fn passes(&self, x: T) -> bool
+        ensures { λ r. ⌜ r ≡ passed (now (self .entry)) x ⌝ };
+}
+
+pub fn retain<T: Copy, P: Test<T>>(list: &mut Vec<T>, test: &P)
+    ensures items { λ _. ⌜ vec-items (now (list .exit)) ≡ kept-by (passed (now (test .entry))) (vec-items (now (list .entry))) ⌝ }
+    ensures capacity { λ _. ⌜ vec-cap (now (list .exit)) ≡ vec-cap (now (list .entry)) ⌝ }
+{
+    let mut filled = 0;
+    for i in 0..list.len() {
+        let x = list[i];
+        if test.passes(x) {
+            list[filled] = x;
+            filled += 1;
+        }
+    }
+    list.truncate(filled);
+}
