@@ -2,3 +2,4 @@ pub mod Searches
 pub mod Sets
 pub mod Readings
 pub mod Changes
+pub mod Rows

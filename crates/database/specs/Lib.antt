@@ -1,4 +1,5 @@
 pub mod Lists
 pub mod States
+pub mod Rows
 pub mod Databases
 pub mod Writes

@@ -1,4 +1,5 @@
 use Rattle.database.proofs.Readings.{reads-one}
+
 use Rattle.database.proofs.queries.same_reading.Needs as need
 
 pub returns : need.returns
