@@ -1,4 +1,5 @@
 pub mod Searches
+pub mod Counts
 pub mod Sets
 pub mod Readings
 pub mod Changes

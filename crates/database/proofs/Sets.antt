@@ -15,9 +15,16 @@ use Rattle.std.specs.shelf.Lists.{kept-by}
 use Rattle.database.specs.Lists.{among, distinct, least, without, added}
 use Rattle.database.specs.States.{tallied}
 
+-- what passes a filter is in the list, and passes
+pub among-kept : (p : ℕ → Bool) (n : ℕ) (xs : List ℕ) → among n (kept-by p xs) ≡ (among n xs && p n)
+among-kept p n [] = refl
+among-kept p n (x ∷ xs) =
+    let ih = among-kept p n xs in
+    let same : n ≡ x → p n ≡ p x = ap p in
+    ⊎-elim (λ e. rw e (grind (arith, tells))) (λ e. rw e (grind (arith, tells))) (cases-bool (p x))
+
 pub among-without : (n m : ℕ) (xs : List ℕ) → among n (without m xs) ≡ (among n xs && not (eqb n m))
-among-without n m [] = refl
-among-without n m (x ∷ xs) = let ih = among-without n m xs in grind (arith, tells)
+among-without n m xs = among-kept (λ x. not (eqb x m)) n xs
 
 pub distinct-without : (m : ℕ) (xs : List ℕ) → distinct xs ≡ true → distinct (without m xs) ≡ true
 distinct-without m [] d = refl

@@ -59,9 +59,9 @@ pub record Pinned (before : Db) (moment : ℕ) (after : Db) : Type 0 where
   pub states : KeepsStates before before after
 
 -- pin: the latest moment, or 31 if 32 other moments are pinned
-abbrev pub Pins : Db → Result ℕ Fault → Db → Type 0
-Pins before (Ok moment) after = Pinned before moment after
-Pins before (Err fault) after = (canPin before ≡ false) × (fault ≡ NoPin 0) × (after ≡ before)
+abbrev pub PinsLatest : Db → Result ℕ Fault → Db → Type 0
+PinsLatest before (Ok moment) after = Pinned before moment after
+PinsLatest before (Err fault) after = (canPin before ≡ false) × (fault ≡ NoPin 0) × (after ≡ before)
 
 -- unpin: one moment is pinned no longer, if it was; what is still held stays as it is
 pub record Unpins (before : Db) (moment : ℕ) (after : Db) : Type 0 where

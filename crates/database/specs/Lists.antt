@@ -10,6 +10,11 @@ abbrev pub any : {X : Type 0} → (X → Bool) → List X → Bool
 any test [] = false
 any test (x ∷ xs) = test x || any test xs
 
+-- whether every element passes the test
+abbrev pub every : {X : Type 0} → (X → Bool) → List X → Bool
+every test [] = true
+every test (x ∷ xs) = test x && every test xs
+
 -- whether a number stands in a list
 abbrev pub among : ℕ → List ℕ → Bool
 among n xs = any (eqb n) xs

@@ -1,6 +1,6 @@
 // What a database means, for every kind of database.
 ghost use mathlib.Core.Path.{_≡_};
-ghost use Rattle.database.specs.Databases.{Db, Sound, Pins, Unpins, UnpinsAll, Asks, Writes};
+ghost use Rattle.database.specs.Databases.{Db, Sound, PinsLatest, Unpins, UnpinsAll, Asks, Writes};
 pub mod pins;
 pub mod queries;
 pub mod retain;
@@ -39,7 +39,7 @@ pub trait Database {
 
     // Pins the latest moment.
     fn pin(&mut self) -> Result<Moment, Fault>
-        ensures { λ r. ⌜ Pins (view (now (self .entry))) r (view (now (self .exit))) ⌝ };
+        ensures { λ r. ⌜ PinsLatest (view (now (self .entry))) r (view (now (self .exit))) ⌝ };
 
     // Unpins a moment, or does nothing where it is not pinned.
     fn unpin(&mut self, moment: Moment)

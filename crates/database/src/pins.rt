@@ -45,6 +45,12 @@ impl Pins {
         Ok(Pins { moments })
     }
 
+    pub fn moments(&self) -> &[Moment]
+        ensures { λ r. ⌜ now r ≡ vec-items (now (self .entry) .moments) ⌝ }
+    {
+        self.moments.as_slice()
+    }
+
     pub fn contains(&self, moment: Moment) -> bool
         ensures { λ r. ⌜ r ≡ among moment (vec-items (now (self .entry) .moments)) ⌝ }
     {

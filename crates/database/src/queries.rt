@@ -3,9 +3,11 @@ ghost use mathlib.Core.Path.{_≡_};
 ghost use mathlib.Core.Bool.{true};
 ghost use Rattle.std.specs.Orderings.{Decides};
 ghost use Rattle.terms.specs.Records.{queryTag};
+ghost use Rattle.database.specs.Rows.{matches};
 ghost use Rattle.database.specs.States.{Records, Reads, Reads-alike};
 use terms::Query;
 use terms::Reading;
+use terms::Row;
 use terms::Tag;
 
 // The tag of the records that a query reads: it reads the same in every two states that answer alike on them.
@@ -31,5 +33,15 @@ fn equal(one: Reading, other: Reading) -> bool
         (Some((a, b)), Some((c, d))) => a == c && b == d,
         (None, None) => true,
         _ => false,
+    }
+}
+
+// Whether a present record is one that the query reads.
+pub fn matches_row(query: Query, row: Row) -> bool
+    ensures { λ r. ⌜ r ≡ matches query row ⌝ }
+{
+    match query {
+        Query::Get { id } => id.is_known() && id.is(row.id),
+        Query::Tally { table, state } => table < 8 && table == row.id.table && state == row.value.state,
     }
 }

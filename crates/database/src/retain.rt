@@ -1,6 +1,7 @@
-// Keeps in a `Vec` what passes a test, in its order and in its place.
+// Counts what passes a test, and keeps it in a `Vec`, in its order and in its place.
 ghost use mathlib.Core.Path.{_≡_};
 ghost use mathlib.Core.Bool.{Bool};
+ghost use lib.ListN.{length};
 ghost use Rattle.std.specs.shelf.Lists.{kept-by};
 ghost use Rattle.std.specs.Of.Vec.{vec-items, vec-cap};
 
@@ -12,6 +13,20 @@ pub trait Test<T> {
         ensures { λ r. ⌜ r ≡ passed (now (self .entry)) x ⌝ };
 }
 
+// How many elements pass.
+pub fn count<T: Copy, P: Test<T>>(list: &[T], test: &P) -> usize
+    ensures { λ r. ⌜ r ≡ length (kept-by (passed (now (test .entry))) (now (list .entry))) ⌝ }
+{
+    let mut total = 0;
+    for x in list {
+        if test.passes(*x) {
+            total += 1;
+        }
+    }
+    total
+}
+
+// Lets go of the elements that do not pass.
 pub fn retain<T: Copy, P: Test<T>>(list: &mut Vec<T>, test: &P)
     ensures items { λ _. ⌜ vec-items (now (list .exit)) ≡ kept-by (passed (now (test .entry))) (vec-items (now (list .entry))) ⌝ }
     ensures capacity { λ _. ⌜ vec-cap (now (list .exit)) ≡ vec-cap (now (list .entry)) ⌝ }
