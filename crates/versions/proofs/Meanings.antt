@@ -160,3 +160,7 @@ pub needed-few : (s : Store) → Good s → length (neededOf s) ≤ s .places
 needed-few s good =
     let p = needed (s .latest) (s .pins) in
     omega (arith, length-kept-by p (s .kept), countBy-le-length p (s .kept), good .fits)
+
+pub pins-either : (s : Store) (r : Bool) (pins : List ℕ) → (r ≡ true → pins ≡ added (s .latest) (s .pins)) → (r ≡ false → pins ≡ s .pins) → Good s → every (λ pin. leb pin (s .latest)) pins ≡ true
+pins-either s r pins one other good =
+    ⊎-elim (λ e. pins-past s pins (one e) good) (λ e. ap (every (λ pin. leb pin (s .latest))) (other e) ∙ good .past) (cases-bool r)
