@@ -14,7 +14,7 @@ returns c =
     let m = c .args .moment in
     let q = c .args .query in
     let is : c .answer-of .result ≡ answerAt (storeOf s) m q =
-        c .answer-of .ensures ∙ ap (scanAnswer (s .latest) q) (c .scan-all .ensures ∙ ap (summary m q) (c .deref .ensures .value)) in
+    c .answer-of .ensures ∙ ap (scanAnswer (s .latest) q) (c .scan-all .ensures ∙ ap (summary m q) (c .deref .ensures .value)) in
     let kept : held (meaning (storeOf s)) m ≡ true = sym (c .holds .ensures) ∙ c .if-not-holds .left in
     let P : Answer → Type 0 = λ a. Answers (meaning (storeOf s)) m q a in
     record { means = (kept, subst P (sym is) (answers (storeOf s) m q (good s) kept)); exact = is }

@@ -15,6 +15,7 @@ returns-then-add c =
     let s = c .args .self .now in
     let to = c .if-add .ensures tt .added refl in
     record {
-        means = pins-mean (storeOf s) _ to (sym (c .if-add .ensures tt .can));
-        keeps = λ _. pins-to (storeOf s) _ to;
-        same = λ e. search needs }
+      means = pins-mean (storeOf s) _ to (sym (c .if-add .ensures tt .can));
+      keeps = λ _. pins-to (storeOf s) _ to;
+      same = λ e. search needs;
+    }

@@ -27,14 +27,25 @@ ghost-self c =
     let cs = c .args .changes .now in
     let room = no-refusal (s .latest) (c .free .result) cs (sym (c .in-rest .ensures tt)) in
     let few = needed-few (storeOf s) (good s) in
-    let long = ap length part in
-    (s .size,
-        (omega (arith, c .change-all .ensures .len, c .retain .last .list .ok .0, long, room .1, c .free .ensures),
-        (omega (arith, c .change-all .ensures .capacity, c .retain .ensures .capacity, s .room),
-        (omega (arith, room .0),
-        (past-later (s .latest) (vec-items (s .pins .moments)) (s .past),
-        (writes-dated (storeOf s) cs _ _ part (c .change-all .ensures .items) (good s),
-        (writes-apart (storeOf s) cs _ _ part (c .change-all .ensures .items) (good s), tt)))))))
+    let long = ap length part in (
+      s .size,
+      (
+        omega (arith, c .change-all .ensures .len, c .retain .last .list .ok .0, long, room .1, c .free .ensures),
+        (
+          omega (arith, c .change-all .ensures .capacity, c .retain .ensures .capacity, s .room),
+          (
+            omega (arith, room .0),
+            (
+              past-later (s .latest) (vec-items (s .pins .moments)) (s .past),
+              (
+                writes-dated (storeOf s) cs _ _ part (c .change-all .ensures .items) (good s),
+                (writes-apart (storeOf s) cs _ _ part (c .change-all .ensures .items) (good s), tt),
+              ),
+            ),
+          ),
+        ),
+      ),
+    )
 
 pub returns : need.returns
 returns c =
@@ -42,6 +53,7 @@ returns c =
     let part = c .retain .ensures .items ∙ ap (λ pins. kept-by (needed (s .latest) pins) (vec-items (s .versions))) (c .moments .ensures) in
     let cs = c .args .changes .now in
     record {
-        means = (ap (λ free. refusal (s .latest) free cs) (sym (c .free .ensures)) ∙ sym (c .in-rest .ensures tt), writes-mean (storeOf s) cs _ _ part (c .change-all .ensures .items) (good s));
-        keeps = λ _. writes-to (storeOf s) cs _ _ part (c .change-all .ensures .items);
-        same = λ e. search needs }
+      means = (ap (λ free. refusal (s .latest) free cs) (sym (c .free .ensures)) ∙ sym (c .in-rest .ensures tt), writes-mean (storeOf s) cs _ _ part (c .change-all .ensures .items) (good s));
+      keeps = λ _. writes-to (storeOf s) cs _ _ part (c .change-all .ensures .items);
+      same = λ e. search needs;
+    }
