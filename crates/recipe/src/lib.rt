@@ -6,6 +6,7 @@ use terms::Reading;
 
 mod attendant;
 mod board;
+pub mod values;
 
 pub use attendant::Attendant;
 pub use attendant::AttendantRecipe;
