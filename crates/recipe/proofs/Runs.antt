@@ -14,25 +14,25 @@ use Rattle.recipe.specs.declared.Ask.{Ask}
 use Rattle.recipe.specs.declared.Ask.the-variants.{Query as Asked, Call, Done}
 use Rattle.recipe.specs.Recipes.{Rules, start, after, Runs, done, query, call, Ends, GivesWithin, Gives, AgreeAll, Value-is-one, Value-rests}
 
-clash-done : {x : Ask} {k : Query} {r : Reading} → x ≡ Asked k → x ≡ Done r → ⊥
+pub clash-done : {x : Ask} {k : Query} {r : Reading} → x ≡ Asked k → x ≡ Done r → ⊥
 clash-done a b = let z : _≡_ {A = ℕ} 0 1 = cc in omega arith
 
-clash-call : {x : Ask} {sh a : ℕ} {r : Reading} → x ≡ Call sh a → x ≡ Done r → ⊥
+pub clash-call : {x : Ask} {sh a : ℕ} {r : Reading} → x ≡ Call sh a → x ≡ Done r → ⊥
 clash-call a b = let z : _≡_ {A = ℕ} 0 1 = cc in omega arith
 
-clash-query : {x : Ask} {sh a : ℕ} {k : Query} → x ≡ Call sh a → x ≡ Asked k → ⊥
+pub clash-query : {x : Ask} {sh a : ℕ} {k : Query} → x ≡ Call sh a → x ≡ Asked k → ⊥
 clash-query a b = let z : _≡_ {A = ℕ} 0 1 = cc in omega arith
 
-done-one : {x : Ask} {r w : Reading} → x ≡ Done r → x ≡ Done w → r ≡ w
+pub done-one : {x : Ask} {r w : Reading} → x ≡ Done r → x ≡ Done w → r ≡ w
 done-one a b = cc
 
-query-one : {x : Ask} {k j : Query} → x ≡ Asked k → x ≡ Asked j → k ≡ j
+pub query-one : {x : Ask} {k j : Query} → x ≡ Asked k → x ≡ Asked j → k ≡ j
 query-one a b = cc
 
-call-sheet : {x : Ask} {sh a th b : ℕ} → x ≡ Call sh a → x ≡ Call th b → sh ≡ th
+pub call-sheet : {x : Ask} {sh a th b : ℕ} → x ≡ Call sh a → x ≡ Call th b → sh ≡ th
 call-sheet e f = cc
 
-call-argument : {x : Ask} {sh a th b : ℕ} → x ≡ Call sh a → x ≡ Call th b → a ≡ b
+pub call-argument : {x : Ask} {sh a th b : ℕ} → x ≡ Call sh a → x ≡ Call th b → a ≡ b
 call-argument e f = cc
 
 -- two runs from one point end alike, whatever answers and depth each had

@@ -6,6 +6,7 @@ use terms::Reading;
 
 mod attendant;
 mod board;
+pub mod evaluate;
 pub mod values;
 
 pub use attendant::Attendant;
