@@ -1,5 +1,6 @@
 -- The attendant's and the board's recipe, and what their sheets are worth.
-use mathlib.Core.Bool.{Bool, cond}
+use mathlib.Core.Path.{_≡_}
+use mathlib.Core.Bool.{Bool, false, cond}
 use Prim.Native.Nat.{ℕ, _^_}
 use lib.Dec.{eqb, leb, ltb}
 use Rattle.std.specs.declared.option.Option.{Option}
@@ -8,7 +9,13 @@ use Rattle.terms.specs.declared.record.Value.{Value}
 use Rattle.terms.specs.declared.record.Query.{Query}
 use Rattle.terms.specs.declared.record.Query.the-variants.{Get, Tally}
 use Rattle.terms.specs.Records.{Reading}
-use Rattle.database.specs.States.{Records, seen}
+use Rattle.terms.specs.declared.fault.Fault.{Fault}
+use Rattle.terms.specs.declared.fault.Fault.the-variants.{NotHeld}
+use Rattle.std.specs.Orderings.{When}
+use Rattle.std.specs.declared.result.Result.{Result}
+use Rattle.std.specs.declared.result.Result.the-variants.{Ok, Err}
+use Rattle.database.specs.Databases.{Db, held}
+use Rattle.database.specs.States.{Records, Reads, seen}
 use Rattle.recipe.specs.declared.Point.{Point}
 use Rattle.recipe.specs.declared.Turn.{Turn}
 use Rattle.recipe.specs.declared.Ask.{Ask}
@@ -79,9 +86,31 @@ abbrev pub claimOfDoor : ℕ → ℕ → Option Value → Reading
 claimOfDoor ticket door None = None
 claimOfDoor ticket door (Some value) = cond (eqb (value .word) ticket) (Some (value .state, door)) None
 
+-- a door's number is a 32-bit number, as every word is
+abbrev pub claimOfWord : Records → ℕ → Option ℕ → Reading
+claimOfWord records ticket None = None
+claimOfWord records ticket (Some door) = claimOfDoor ticket door (seen records 0 door)
+
 abbrev pub claimOfTicket : Records → ℕ → Option Value → Reading
 claimOfTicket records ticket None = None
-claimOfTicket records ticket (Some value) = claimOfDoor ticket (value .word) (seen records 0 (value .word))
+claimOfTicket records ticket (Some value) = claimOfWord records ticket (narrow (value .word))
 
 abbrev pub claimOf : Records → ℕ → Reading
 claimOf records ticket = claimOfTicket records ticket (seen records 1 ticket)
+
+-- what the board's sheet 0 is worth: the tally of the doors in the argument's state, absent above 255
+abbrev pub TallyOf : Records → ℕ → Reading → Type 0
+TallyOf records argument reading = When (leb argument 255) (Reads records (Tally 0 argument) reading) (reading ≡ None)
+
+-- what the board's sheet 1 is worth: how many doors are free, and how many are taken; each is a 32-bit number at every held moment
+pub record CountsOf (records : Records) (reading : Reading) : Type 0 where
+  pub free : Reading
+  pub taken : Reading
+  pub reads-free : Reads records (Tally 0 0) free
+  pub reads-taken : Reads records (Tally 0 1) taken
+  pub both : reading ≡ counts (narrow (countOf free)) taken
+
+-- the sheet's worth, or 32 where the moment is not held
+abbrev pub Worth : Db → ℕ → (Records → Reading → Type 0) → Result Reading Fault → Type 0
+Worth db moment worth (Ok reading) = worth (db .at moment) reading
+Worth db moment worth (Err fault) = (held db moment ≡ false) × (fault ≡ NotHeld 0)

@@ -7,12 +7,16 @@ use terms::Reading;
 mod attendant;
 mod board;
 pub mod evaluate;
+mod sheets;
 pub mod values;
 
 pub use attendant::Attendant;
 pub use attendant::AttendantRecipe;
 pub use board::Board;
 pub use board::BoardRecipe;
+pub use sheets::claim_sheet;
+pub use sheets::counts_sheet;
+pub use sheets::tally_sheet;
 
 // Where the working out of a sheet stands. It starts at stage 0, carry 0, absent.
 #[derive(Clone, Copy)]

@@ -22,7 +22,7 @@ use Rattle.database.specs.Rows.{holding, unique}
 use Rattle.database.specs.Databases.{Db, held, Sound, Pinned, canPin, Unpins, UnpinsAll, Written}
 use Rattle.database.specs.Writes.{changed, refusal, wrongList, noRoom, orElse}
 use Rattle.database.proofs.Sets.{among-added, among-without}
-use Rattle.database.proofs.Rows.{few-keys}
+use Rattle.database.proofs.Rows.{few-keys, keys-in}
 use Rattle.versions.specs.Versions.{visible, rowsAt, stateAt, needed, changedByAll, dated}
 use Rattle.versions.specs.declared.version.Version.{Version}
 use Rattle.versions.specs.declared.store.VersionStore.{VersionStore}
