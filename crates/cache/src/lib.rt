@@ -1,0 +1,8 @@
+// What a cache of readings means: its keys, entries and tags, and the calls that every kind of cache answers.
+pub mod entry;
+pub mod key;
+pub mod tag_set;
+
+pub use entry::Entry;
+pub use key::Key;
+pub use tag_set::TagSet;
