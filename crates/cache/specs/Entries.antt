@@ -35,6 +35,15 @@ covers delivered entry moment =
 abbrev pub answers : Key → ℕ → Entry → ℕ → Bool
 answers key delivered entry moment = isKey key (entry .key) && covers delivered entry moment
 
+-- a moment is later than the newest so far
+abbrev pub later : Option ℕ → ℕ → Bool
+later None moment = true
+later (Some newest) moment = ltb newest moment
+
+-- the newest moment so far that passes the test, with one more moment
+abbrev pub newer : (ℕ → Bool) → Option ℕ → ℕ → Option ℕ
+newer test newest moment = cond (test moment && later newest moment) (Some moment) newest
+
 -- an interval without an end goes on
 abbrev pub lasts : Until → ℕ → Bool
 lasts (Ended end) moment = ltb moment end

@@ -1,6 +1,6 @@
 // Entries of a cache: what one covers, which give way to a new one, and what a close makes of one.
 ghost use mathlib.Core.Path.{_≡_};
-ghost use Rattle.cache.specs.Entries.{isEnd, covers, answers, inside, shareMoment, givesWay, hasMoment, accepted, closed, endedBy, blankEntry};
+ghost use Rattle.cache.specs.Entries.{isEnd, covers, answers, newer, inside, shareMoment, givesWay, hasMoment, accepted, closed, endedBy, blankEntry};
 ghost use Rattle.cache.specs.Calls.{Newest};
 use crate::key::Key;
 use crate::tag_set::TagSet;
@@ -109,6 +109,32 @@ impl Entry {
         ensures { λ r. ⌜ r ≡ answers key delivered self moment ⌝ }
     {
         key.is(self.key) && self.covers(moment, delivered)
+    }
+
+    // The newest moment so far that the entry answers, with one more moment.
+    fn newer(self, key: Key, newest: Option<Moment>, moment: Moment, delivered: Moment) -> Option<Moment>
+        ensures { λ r. ⌜ r ≡ newer (answers key delivered self) newest moment ⌝ }
+    {
+        let is_later = match newest {
+            Some(newest) => newest < moment,
+            None => true,
+        };
+        if self.answers(key, moment, delivered) && is_later {
+            Some(moment)
+        } else {
+            newest
+        }
+    }
+
+    // The newest of the moments that the entry answers.
+    pub fn newest(self, key: Key, moments: &[Moment], delivered: Moment) -> Option<Moment>
+        ensures { λ r. ⌜ Newest (answers key delivered self) (now (moments .entry)) r ⌝ }
+    {
+        let mut newest = None;
+        for i in 0..moments.len() {
+            newest = self.newer(key, newest, moments[i], delivered);
+        }
+        newest
     }
 
     // Whether the entry has to leave when the new one comes in.
