@@ -3,7 +3,7 @@ use mathlib.Core.Path.{_≡_, refl, sym, ap, subst, _∙_}
 use mathlib.Core.Bool.{Bool, true, false, cond, _&&_}
 use mathlib.Core.List.{List, [], _∷_, _++_, map}
 use mathlib.Core.Logic.{_⊎_, inl, inr, ⊎-elim}
-use Prim.Native.Nat.{ℕ, _+_, _≤_, _<_}
+use Prim.Native.Nat.{ℕ, zero, suc, _+_, _≤_, _<_}
 use native.Mathlib.Omega.{arith}
 use lib.ListN.{length, take, getD}
 use Rattle.std.proofs.shelf.Tests.{cond-both, and-parts, and-cases, ltb-true, ltb-false, both-ways, cases-bool}
@@ -33,6 +33,11 @@ among-last x xs = among-right x xs (x ∷ []) (inl refl)
 
 pub among-push : {X : Type 0} (y : X) (xs : List X) (x : X) → Among y (xs ++ x ∷ []) → Among y xs ⊎ (y ≡ x)
 among-push y xs x h = ⊎-elim (λ l. inl l) (λ r. inr (⊎-elim (λ e. e) (λ none. absurd none) r)) (among-append y xs (x ∷ []) h)
+
+pub among-getD : {X : Type 0} (xs : List X) (i : ℕ) (d : X) → i < length xs → Among (getD xs i d) xs
+among-getD [] i d h = omega arith
+among-getD (x ∷ xs) zero d h = inl refl
+among-getD (x ∷ xs) (suc i) d h = inr (among-getD xs i d (omega arith))
 
 pub among-map : {X Y : Type 0} (f : X → Y) (x : X) (xs : List X) → Among x xs → Among (f x) (map f xs)
 among-map f x [] h = absurd h

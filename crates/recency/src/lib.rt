@@ -1,0 +1,6 @@
+// The recency node: a cache that keeps the entries that were used last.
+pub mod node;
+mod place;
+
+pub use node::Recency;
+

@@ -1,0 +1,119 @@
+// The recency node over a lent table.
+ghost use mathlib.Core.Path.{_≡_};
+ghost use mathlib.Core.Bool.{_&&_};
+ghost use mathlib.Core.List.{List, [], _∷_, _++_, map};
+ghost use Prim.Native.Nat.{ℕ, _+_, _<_, _≤_};
+ghost use denote.Ref.{now};
+ghost use lib.Dec.{leb, ltb};
+ghost use lib.ListN.{length, take, drop, getD, set};
+ghost use Rattle.std.specs.Results.{Cases, isOk};
+ghost use Rattle.std.specs.shelf.Lists.{kept-by};
+ghost use Rattle.terms.specs.declared.fault.Fault.the-variants.{OutOfRange};
+ghost use Rattle.cache.specs.Entries.{blankEntry, accepted, closed};
+ghost use Rattle.cache.specs.Lists.{Same};
+ghost use Rattle.cache.specs.Calls.{Looks, Enters, Closes, Drops, Sound};
+ghost use Rattle.recency.specs.Nodes.{places, sizeOf, recent, stays, outlasts, Raises, pushed, Finds};
+use cache::Cache;
+use cache::Entry;
+use cache::Key;
+use crate::place::Found;
+use crate::place::better_of;
+use terms::Fault;
+use terms::Interval;
+use terms::Moment;
+use terms::Reading;
+use terms::Tag;
+
+// The most entries that a node can keep.
+const MOST: usize = 1024;
+
+// A table that is not empty, whose first `len` places hold the entries by last use, the newest first.
+#[derive(Drop)]
+pub struct Recency<'a> {
+    first: &'a mut Entry,
+    rest: &'a mut [Entry],
+    len: usize,
+}
+
+fn stays_with(new: Entry, old: Entry) -> bool
+    ensures { λ r. ⌜ r ≡ stays new old ⌝ }
+{
+    !old.gives_way(new)
+}
+
+fn is_lasting(entry: Entry, moment: Moment) -> bool
+    ensures { λ r. ⌜ r ≡ outlasts moment entry ⌝ }
+{
+    !entry.is_ended_by(moment)
+}
+
+impl<'a> Recency<'a> {
+    // A node without entries, as large as the table; refused if that is not 1 to 1,024 places.
+    pub fn new(table: &'a mut [Entry]) -> Result<Recency<'a>, Fault>
+        ensures size { λ r. ⌜ isOk r ≡ (leb 1 (length (now (table .entry))) && leb (length (now (table .entry))) 1024) ⌝ }
+        ensures cases { λ r. ⌜ Cases r (λ node. (sizeOf node ≡ length (now (table .entry))) × (recent node ≡ [])) (λ fault. fault ≡ OutOfRange) ⌝ }
+    {
+        if table.len() > MOST {
+            return Err(Fault::OutOfRange);
+        }
+        match table.split_first_mut() {
+            Some((first, rest)) => Ok(Recency {
+                first,
+                rest,
+                len: 0,
+            }),
+            None => Err(Fault::OutOfRange),
+        }
+    }
+
+    // How many entries there are.
+    fn count(&self) -> usize
+        ensures { λ r. ⌜ r ≡ length (recent (now (self .entry))) ⌝ }
+    {
+        self.len.min(self.rest.len() + 1)
+    }
+
+    fn has_place(&self, place: usize) -> bool
+        ensures { λ r. ⌜ r ≡ ltb place (sizeOf (now (self .entry))) ⌝ }
+    {
+        place <= self.rest.len()
+    }
+
+    fn at(&self, place: usize) -> Entry
+        requires { ⌜ place < sizeOf (now self) ⌝ }
+        ensures { λ r. ⌜ r ≡ getD (places (now (self .entry))) place blankEntry ⌝ }
+    {
+        if place == 0 {
+            *self.first
+        } else {
+            self.rest[place - 1]
+        }
+    }
+
+    fn put(&mut self, place: usize, entry: Entry)
+        requires { ⌜ place < sizeOf (now self) ⌝ }
+        ensures places { λ _. ⌜ places (now (self .exit)) ≡ set (places (now (self .entry))) place entry ⌝ }
+        ensures len { λ _. ⌜ now (self .exit) .len ≡ now (self .entry) .len ⌝ }
+    {
+        if place == 0 {
+            *self.first = entry;
+        } else {
+            self.rest[place - 1] = entry;
+        }
+    }
+
+    // The place of the entry that a look-up answers, in one pass.
+    fn find(&self, key: Key, moments: &[Moment], delivered: Moment) -> Option<usize>
+        ensures { λ r. ⌜ Finds (recent (now (self .entry))) key (now (moments .entry)) delivered r ⌝ }
+    {
+        let mut best = None;
+        for i in 0..self.count() {
+            let newest = self.at(i).newest(key, moments, delivered);
+            best = better_of(best, i, newest);
+        }
+        match best {
+            Some(found) => Some(found.place),
+            None => None,
+        }
+    }
+}
