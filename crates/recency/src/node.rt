@@ -116,4 +116,54 @@ impl<'a> Recency<'a> {
             None => None,
         }
     }
+
+    // Brings the entry at the place to the front, and answers it.
+    fn raise(&mut self, place: usize) -> Entry
+        requires { ⌜ place < length (recent (now self)) ⌝ }
+        ensures hit { λ r. ⌜ r ≡ getD (recent (now (self .entry))) place blankEntry ⌝ }
+        ensures order { λ r. ⌜ recent (now (self .exit)) ≡ r ∷ (take place (recent (now (self .entry))) ++ drop (place + 1) (recent (now (self .entry)))) ⌝ }
+        ensures size { λ _. ⌜ sizeOf (now (self .exit)) ≡ sizeOf (now (self .entry)) ⌝ }
+    {
+        let hit = self.at(place);
+        let mut carry = hit;
+        for i in 0..place {
+            let old = self.at(i);
+            self.put(i, carry);
+            carry = old;
+        }
+        self.put(place, carry);
+        hit
+    }
+
+    // Ends the entries with the one that is left over, if there is a place for it.
+    fn settle(&mut self, kept: usize, carry: Entry)
+        requires { ⌜ kept ≤ sizeOf (now self) ⌝ }
+        ensures order { λ _. ⌜ recent (now (self .exit)) ≡ take (sizeOf (now (self .entry))) (take kept (places (now (self .entry))) ++ carry ∷ []) ⌝ }
+        ensures size { λ _. ⌜ sizeOf (now (self .exit)) ≡ sizeOf (now (self .entry)) ⌝ }
+    {
+        if self.has_place(kept) {
+            self.put(kept, carry);
+            self.len = kept + 1;
+        } else {
+            self.len = kept;
+        }
+    }
+
+    // Puts the new entry first. Each entry that stays moves on by one place, less one for each that left before it.
+    fn push(&mut self, new: Entry)
+        ensures order { λ _. ⌜ recent (now (self .exit)) ≡ take (sizeOf (now (self .entry))) (new ∷ kept-by (stays new) (recent (now (self .entry)))) ⌝ }
+        ensures size { λ _. ⌜ sizeOf (now (self .exit)) ≡ sizeOf (now (self .entry)) ⌝ }
+    {
+        let mut carry = new;
+        let mut next = 0;
+        for i in 0..self.count() {
+            let old = self.at(i);
+            if stays_with(new, old) {
+                self.put(next, carry);
+                carry = old;
+                next += 1;
+            }
+        }
+        self.settle(next, carry);
+    }
 }
