@@ -3,4 +3,4 @@ pub mod node;
 mod place;
 
 pub use node::Recency;
-
+pub use node::RecencyCache;

@@ -2,7 +2,7 @@
 ghost use mathlib.Core.Path.{_≡_};
 ghost use mathlib.Core.Bool.{_&&_};
 ghost use mathlib.Core.List.{List, [], _∷_, _++_, map};
-ghost use Prim.Native.Nat.{ℕ, _+_, _<_, _≤_};
+ghost use Prim.Native.Nat.{ℕ, min, _+_, _-_, _<_, _≤_};
 ghost use denote.Ref.{now};
 ghost use lib.Dec.{leb, ltb};
 ghost use lib.ListN.{length, take, drop, getD, set};
@@ -71,6 +71,13 @@ impl<'a> Recency<'a> {
         ensures { λ r. ⌜ r ≡ length (recent (now (self .entry))) ⌝ }
     {
         self.len.min(self.rest.len() + 1)
+    }
+
+    // How many entries there are behind the first place.
+    fn older(&self) -> usize
+        ensures { λ r. ⌜ r ≡ min (now (self .entry) .len - 1) (length (now (now (self .entry) .rest))) ⌝ }
+    {
+        self.len.saturating_sub(1).min(self.rest.len())
     }
 
     fn has_place(&self, place: usize) -> bool
@@ -165,5 +172,72 @@ impl<'a> Recency<'a> {
             }
         }
         self.settle(next, carry);
+    }
+}
+
+pub impl Cache for Recency<'_> as RecencyCache {
+    // By last use, the newest use first.
+    ghost entries = { λ s. recent s };
+
+    fn look_up(&mut self, key: Key, moments: &[Moment], delivered: Moment) -> Option<Entry>
+        ensures answer { λ r. ⌜ Looks (recent (now (self .entry))) key (now (moments .entry)) delivered r ⌝ }
+        ensures same { λ _. ⌜ Same (recent (now (self .entry))) (recent (now (self .exit))) ⌝ }
+        ensures sound { λ _. ⌜ (Sound (recent (now (self .entry))) → Sound (recent (now (self .exit)))) ⌝ }
+        ensures order { λ r. ⌜ Raises (recent (now (self .entry))) r (recent (now (self .exit))) ⌝ }
+        ensures size { λ _. ⌜ sizeOf (now (self .exit)) ≡ sizeOf (now (self .entry)) ⌝ }
+    {
+        match self.find(key, moments, delivered) {
+            Some(place) => Some(self.raise(place)),
+            None => None,
+        }
+    }
+
+    fn insert(&mut self, key: Key, reading: Reading, interval: Interval, tags: &[Tag])
+        ensures entered { λ _. ⌜ Enters (recent (now (self .entry))) (accepted key reading interval (now (tags .entry))) (recent (now (self .exit))) ⌝ }
+        ensures sound { λ _. ⌜ (Sound (recent (now (self .entry))) → Sound (recent (now (self .exit)))) ⌝ }
+        ensures order { λ _. ⌜ recent (now (self .exit)) ≡ pushed (sizeOf (now (self .entry))) (accepted key reading interval (now (tags .entry))) (recent (now (self .entry))) ⌝ }
+        ensures size { λ _. ⌜ sizeOf (now (self .exit)) ≡ sizeOf (now (self .entry)) ⌝ }
+    {
+        if let Some(new) = Entry::accepted(key, reading, interval, tags) {
+            self.push(new);
+        }
+    }
+
+    fn close(&mut self, tag: Tag, moment: u64)
+        ensures closed { λ _. ⌜ Closes (recent (now (self .entry))) tag moment (recent (now (self .exit))) ⌝ }
+        ensures sound { λ _. ⌜ (Sound (recent (now (self .entry))) → Sound (recent (now (self .exit)))) ⌝ }
+        ensures order { λ _. ⌜ recent (now (self .exit)) ≡ map (closed tag moment) (recent (now (self .entry))) ⌝ }
+        ensures size { λ _. ⌜ sizeOf (now (self .exit)) ≡ sizeOf (now (self .entry)) ⌝ }
+    {
+        *self.first = self.first.closed(tag, moment);
+        for i in 0..self.older() {
+            let entry = self.rest[i];
+            self.rest[i] = entry.closed(tag, moment);
+        }
+    }
+
+    fn drop_ended(&mut self, moment: Moment)
+        ensures dropped { λ _. ⌜ Drops (recent (now (self .entry))) moment (recent (now (self .exit))) ⌝ }
+        ensures sound { λ _. ⌜ (Sound (recent (now (self .entry))) → Sound (recent (now (self .exit)))) ⌝ }
+        ensures order { λ _. ⌜ recent (now (self .exit)) ≡ kept-by (outlasts moment) (recent (now (self .entry))) ⌝ }
+        ensures size { λ _. ⌜ sizeOf (now (self .exit)) ≡ sizeOf (now (self .entry)) ⌝ }
+    {
+        let mut next = 0;
+        for i in 0..self.count() {
+            let entry = self.at(i);
+            if is_lasting(entry, moment) {
+                self.put(next, entry);
+                next += 1;
+            }
+        }
+        self.len = next;
+    }
+
+    fn clear(&mut self)
+        ensures none { λ _. ⌜ recent (now (self .exit)) ≡ [] ⌝ }
+        ensures sound { λ _. ⌜ Sound (recent (now (self .exit))) ⌝ }
+        ensures size { λ _. ⌜ sizeOf (now (self .exit)) ≡ sizeOf (now (self .entry)) ⌝ }
+    {
+        self.len = 0;
     }
 }
