@@ -1,0 +1,20 @@
+-- Which of its two caches a split uses for a key, and what it holds.
+use mathlib.Core.Bool.{Bool, not}
+use mathlib.Core.List.{List, _++_}
+use Prim.Native.Nat.{_+_, _%_}
+use lib.Dec.{eqb}
+use Rattle.std.specs.shelf.Lists.{kept-by}
+use Rattle.cache.specs.declared.entry.Entry.{Entry}
+use Rattle.cache.specs.declared.key.Key.{Key}
+
+-- keys with an even sum of sheet and argument go to the first
+abbrev pub goesFirst : Key → Bool
+goesFirst key = eqb ((key .sheet + key .argument) % 2) 0
+
+-- all others go to the second
+abbrev pub goesSecond : Key → Bool
+goesSecond key = not (goesFirst key)
+
+-- the entries of the first cache whose keys go there, and those of the second whose keys go there
+abbrev pub halves : List Entry → List Entry → List Entry
+halves es fs = kept-by (λ e. goesFirst (e .key)) es ++ kept-by (λ e. goesSecond (e .key)) fs
