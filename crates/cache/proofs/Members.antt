@@ -71,11 +71,15 @@ newest-push test xs None x h =
 newest-push test xs (Some b) x h =
     cond-both (test x && later (Some b) x) (Some x) (Some b) (λ r. Newest test (xs ++ x ∷ []) r)
     (λ e. let won = and-parts (test x) (later (Some b) x) e in
-          (among-last x xs, won .0, λ m a t. ⊎-elim (λ l. let below = ltb-true b x (won .1) in let le = h .2 m l t in omega arith) (λ is. omega arith) (among-push m xs x a)))
-    (λ e. (among-left b xs (x ∷ []) (h .0), h .1, λ m a t.
-        ⊎-elim (λ l. h .2 m l t)
-        (λ is. ⊎-elim (λ no. absurd (both-ways (test x) no (ap test (sym is) ∙ t))) (λ no. let le = ltb-false b x no in omega arith) (and-cases (test x) (later (Some b) x) e))
-        (among-push m xs x a)))
+    (among-last x xs, won .0, λ m a t. ⊎-elim (λ l. let below = ltb-true b x (won .1) in let le = h .2 m l t in omega arith) (λ is. omega arith) (among-push m xs x a)))
+    (λ e. (
+      among-left b xs (x ∷ []) (h .0),
+      h .1,
+      λ m a t.
+          ⊎-elim (λ l. h .2 m l t)
+          (λ is. ⊎-elim (λ no. absurd (both-ways (test x) no (ap test (sym is) ∙ t))) (λ no. let le = ltb-false b x no in omega arith) (and-cases (test x) (later (Some b) x) e))
+          (among-push m xs x a),
+    ))
 
 pub newest-more : (test : ℕ → Bool) (ms : List ℕ) (i : ℕ) (best : Option ℕ) → i < length ms → Newest test (take i ms) best → Newest test (take (i + 1) ms) (newer test best (getD ms i 0))
 newest-more test ms i best h so = subst (λ l. Newest test l (newer test best (getD ms i 0))) (sym (take-more ms i 0 h)) (newest-push test (take i ms) best (getD ms i 0) so)

@@ -51,14 +51,14 @@ sound-none = record { made = λ e h. absurd h; apart = λ e f h. absurd h }
 
 pub sound-same : {xs ys : List Entry} → Same xs ys → Sound xs → Sound ys
 sound-same same sound = record {
-    made = λ e h. sound .made e (same .back e h);
-    apart = λ e f h k. sound .apart e f (same .back e h) (same .back f k)
+  made = λ e h. sound .made e (same .back e h);
+  apart = λ e f h k. sound .apart e f (same .back e h) (same .back f k);
 }
 
 pub sound-drops : {xs ys : List Entry} {m : ℕ} → Drops xs m ys → Sound xs → Sound ys
 sound-drops drops sound = record {
-    made = λ e h. sound .made e (drops .only e h .0);
-    apart = λ e f h k. sound .apart e f (drops .only e h .0) (drops .only f k .0)
+  made = λ e h. sound .made e (drops .only e h .0);
+  apart = λ e f h k. sound .apart e f (drops .only e h .0) (drops .only f k .0);
 }
 
 -- an entry that does not give way to another of its key has no moment in common with it
@@ -68,23 +68,23 @@ keeps-apart new e m stays key h k =
 
 pub sound-inserts : {xs ys : List Entry} {new : Entry} → Inserts xs new ys → accepts (new .key) (new .interval) (tagsOf (new .tags)) ≡ true → Sound xs → Sound ys
 sound-inserts {xs} {ys} {new} ins good sound = record {
-    made = λ e h. ⊎-elim
-        (λ is. subst (λ (x : Entry). accepts (x .key) (x .interval) (tagsOf (x .tags)) ≡ true) (sym is) good)
-        (λ was. sound .made e (was .0)) (ins .old e h);
-    apart = λ e f h k key m he hf. ⊎-elim
-        (λ is. ⊎-elim
-            (λ also. is ∙ sym also)
-            (λ was. absurd (keeps-apart new f m (was .1)
-                (subst (λ (x : Entry). isKey (x .key) (f .key) ≡ true) is key)
-                (subst (λ (x : Entry). inside (x .interval) m ≡ true) is he) hf))
-            (ins .old f k))
-        (λ was. ⊎-elim
-            (λ is. absurd (keeps-apart new e m (was .1)
-                (isKey-sym (e .key) (new .key) (subst (λ (x : Entry). isKey (e .key) (x .key) ≡ true) is key))
-                (subst (λ (x : Entry). inside (x .interval) m ≡ true) is hf) he))
-            (λ also. sound .apart e f (was .0) (also .0) key m he hf)
-            (ins .old f k))
-        (ins .old e h)
+  made = λ e h. ⊎-elim
+      (λ is. subst (λ (x : Entry). accepts (x .key) (x .interval) (tagsOf (x .tags)) ≡ true) (sym is) good)
+      (λ was. sound .made e (was .0)) (ins .old e h);
+  apart = λ e f h k key m he hf. ⊎-elim
+      (λ is. ⊎-elim
+      (λ also. is ∙ sym also)
+      (λ was. absurd (keeps-apart new f m (was .1)
+      (subst (λ (x : Entry). isKey (x .key) (f .key) ≡ true) is key)
+      (subst (λ (x : Entry). inside (x .interval) m ≡ true) is he) hf))
+      (ins .old f k))
+      (λ was. ⊎-elim
+      (λ is. absurd (keeps-apart new e m (was .1)
+      (isKey-sym (e .key) (new .key) (subst (λ (x : Entry). isKey (e .key) (x .key) ≡ true) is key))
+      (subst (λ (x : Entry). inside (x .interval) m ≡ true) is hf) he))
+      (λ also. sound .apart e f (was .0) (also .0) key m he hf)
+      (ins .old f k))
+      (ins .old e h);
 }
 
 -- the tags of an accepted entry are those that were given
@@ -113,38 +113,38 @@ pub closed-inside : (tag : Tag) (n : ℕ) (e : Entry) (m : ℕ) → inside (clos
 closed-inside tag n e m =
     cond-both (closes tag n e) (endedAt n e) e (λ (x : Entry). inside (x .interval) m ≡ true → inside (e .interval) m ≡ true)
     (λ yes′ h.
-        let c = and-parts (isOpen (e .interval .until)) _ (and-parts (isEnd n) _ yes′ .1) in
-        and-from _ _ (and-parts (leb (e .interval .first) m) _ h .0) (open-inside (e .interval .until) m (c .0)))
+    let c = and-parts (isOpen (e .interval .until)) _ (and-parts (isEnd n) _ yes′ .1) in
+    and-from _ _ (and-parts (leb (e .interval .first) m) _ h .0) (open-inside (e .interval .until) m (c .0)))
     (λ _ h. h)
 
 pub closed-good : (tag : Tag) (n : ℕ) (e : Entry) → accepts (e .key) (e .interval) (tagsOf (e .tags)) ≡ true → accepts (closed tag n e .key) (closed tag n e .interval) (tagsOf (closed tag n e .tags)) ≡ true
 closed-good tag n e good =
     cond-both (closes tag n e) (endedAt n e) e (λ (x : Entry). accepts (x .key) (x .interval) (tagsOf (x .tags)) ≡ true)
     (λ yes′.
-        let a = and-parts (ltb (e .key .sheet) 255) (hasMoment (e .interval) && fewTags (tagsOf (e .tags))) good in
-        let b = and-parts (hasMoment (e .interval)) (fewTags (tagsOf (e .tags))) (a .1) in
-        let first = and-parts (isMoment (e .interval .first)) (endsPast (e .interval .first) (e .interval .until)) (b .0) .0 in
-        let c = and-parts (isEnd n) _ yes′ in
-        let d = and-parts (isOpen (e .interval .until)) _ (c .1) in
-        let before = and-parts (ltb (e .interval .first) n) _ (d .1) .0 in
-        and-from _ _ (a .0) (and-from _ _ (and-from _ _ first (and-from _ _ before (c .0))) (b .1)))
+    let a = and-parts (ltb (e .key .sheet) 255) (hasMoment (e .interval) && fewTags (tagsOf (e .tags))) good in
+    let b = and-parts (hasMoment (e .interval)) (fewTags (tagsOf (e .tags))) (a .1) in
+    let first = and-parts (isMoment (e .interval .first)) (endsPast (e .interval .first) (e .interval .until)) (b .0) .0 in
+    let c = and-parts (isEnd n) _ yes′ in
+    let d = and-parts (isOpen (e .interval .until)) _ (c .1) in
+    let before = and-parts (ltb (e .interval .first) n) _ (d .1) .0 in
+    and-from _ _ (a .0) (and-from _ _ (and-from _ _ first (and-from _ _ before (c .0))) (b .1)))
     (λ _. good)
 
 pub sound-closes : {xs ys : List Entry} {tag : Tag} {n : ℕ} → Closes xs tag n ys → Sound xs → Sound ys
 sound-closes {xs} {ys} {tag} {n} closing sound = record {
-    made = λ e h.
-        let w = closing .only e h in
-        subst (λ (x : Entry). accepts (x .key) (x .interval) (tagsOf (x .tags)) ≡ true) (sym (w .2)) (closed-good tag n (w .0) (sound .made (w .0) (w .1)));
-    apart = λ e f h k key m he hf.
-        let v = closing .only e h in
-        let w = closing .only f k in
-        let same : isKey (v .0 .key) (w .0 .key) ≡ true =
-            ap (λ (x : Key). isKey x (w .0 .key)) (sym (closed-key tag n (v .0)))
-            ∙ ap (isKey (closed tag n (v .0) .key)) (sym (closed-key tag n (w .0)))
-            ∙ ap (λ (x : Entry). isKey (x .key) (closed tag n (w .0) .key)) (sym (v .2))
-            ∙ ap (λ (x : Entry). isKey (e .key) (x .key)) (sym (w .2))
-            ∙ key in
-        let one = closed-inside tag n (v .0) m (subst (λ (x : Entry). inside (x .interval) m ≡ true) (v .2) he) in
-        let other = closed-inside tag n (w .0) m (subst (λ (x : Entry). inside (x .interval) m ≡ true) (w .2) hf) in
-        v .2 ∙ ap (closed tag n) (sound .apart (v .0) (w .0) (v .1) (w .1) same m one other) ∙ sym (w .2)
+  made = λ e h.
+      let w = closing .only e h in
+      subst (λ (x : Entry). accepts (x .key) (x .interval) (tagsOf (x .tags)) ≡ true) (sym (w .2)) (closed-good tag n (w .0) (sound .made (w .0) (w .1)));
+  apart = λ e f h k key m he hf.
+      let v = closing .only e h in
+      let w = closing .only f k in
+      let same : isKey (v .0 .key) (w .0 .key) ≡ true =
+      ap (λ (x : Key). isKey x (w .0 .key)) (sym (closed-key tag n (v .0)))
+      ∙ ap (isKey (closed tag n (v .0) .key)) (sym (closed-key tag n (w .0)))
+      ∙ ap (λ (x : Entry). isKey (x .key) (closed tag n (w .0) .key)) (sym (v .2))
+      ∙ ap (λ (x : Entry). isKey (e .key) (x .key)) (sym (w .2))
+      ∙ key in
+      let one = closed-inside tag n (v .0) m (subst (λ (x : Entry). inside (x .interval) m ≡ true) (v .2) he) in
+      let other = closed-inside tag n (w .0) m (subst (λ (x : Entry). inside (x .interval) m ≡ true) (w .2) hf) in
+      v .2 ∙ ap (closed tag n) (sound .apart (v .0) (w .0) (v .1) (w .1) same m one other) ∙ sym (w .2);
 }

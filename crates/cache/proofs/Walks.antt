@@ -33,11 +33,11 @@ packed-more xs i h few =
     let more : length (take (i + 1) xs) ≡ i + 1 = length-take-le (i + 1) xs (omega arith) in
     let left : 8 - i ≡ suc (8 - (i + 1)) = omega arith in
     let free : packed (take i xs) .tags ≡ take i xs ++ noTag ∷ replicate (8 - (i + 1)) noTag =
-        ap (λ n. take i xs ++ replicate (8 - n) noTag) here ∙ ap (λ n. take i xs ++ replicate n noTag) left in
+    ap (λ n. take i xs ++ replicate (8 - n) noTag) here ∙ ap (λ n. take i xs ++ replicate n noTag) left in
     let there : packed (take (i + 1) xs) .tags ≡ take i xs ++ getD xs i noTag ∷ replicate (8 - (i + 1)) noTag =
-        ap (λ n. take (i + 1) xs ++ replicate (8 - n) noTag) more
-        ∙ ap (λ ys. ys ++ replicate (8 - (i + 1)) noTag) (take-more xs i noTag h)
-        ∙ append-assoc (take i xs) (getD xs i noTag ∷ []) (replicate (8 - (i + 1)) noTag) in
+    ap (λ n. take (i + 1) xs ++ replicate (8 - n) noTag) more
+    ∙ ap (λ ys. ys ++ replicate (8 - (i + 1)) noTag) (take-more xs i noTag h)
+    ∙ append-assoc (take i xs) (getD xs i noTag ∷ []) (replicate (8 - (i + 1)) noTag) in
     ap (λ ys. set ys i (getD xs i noTag)) free ∙ set-at (take i xs) noTag (replicate (8 - (i + 1)) noTag) (getD xs i noTag) i here ∙ sym there
 
 pub tagsOf-packed : (xs : List Tag) → length xs ≤ 8 → tagsOf (packed xs) ≡ xs
@@ -57,9 +57,9 @@ with-more s tag n whole is few new =
     let inside : n < length (s .tags) = omega arith in
     let room : ltb (length (tagsOf s)) 8 ≡ true = lt-ltb (length (tagsOf s)) 8 (omega arith) in
     let added : tagsOf (record { tags = set (s .tags) n tag; count = n + 1 }) ≡ tagsOf s ++ tag ∷ [] =
-        ap (λ k. take k (set (s .tags) n tag)) next
-        ∙ take-more-set (s .tags) n tag inside
-        ∙ ap (λ k. take k (s .tags) ++ tag ∷ []) here in
+    ap (λ k. take k (set (s .tags) n tag)) next
+    ∙ take-more-set (s .tags) n tag inside
+    ∙ ap (λ k. take k (s .tags) ++ tag ∷ []) here in
     ap Some added
     ∙ sym (cond-true (ltb (length (tagsOf s)) 8) _ _ room)
     ∙ sym (cond-false (hasTag tag (tagsOf s)) _ _ (sym new))

@@ -112,7 +112,13 @@ impl Entry {
     }
 
     // The newest moment so far that the entry answers, with one more moment.
-    fn newer(self, key: Key, newest: Option<Moment>, moment: Moment, delivered: Moment) -> Option<Moment>
+    fn newer(
+        self,
+        key: Key,
+        newest: Option<Moment>,
+        moment: Moment,
+        delivered: Moment,
+    ) -> Option<Moment>
         ensures { λ r. ⌜ r ≡ newer (answers key delivered self) newest moment ⌝ }
     {
         let is_later = match newest {

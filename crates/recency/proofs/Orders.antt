@@ -33,10 +33,10 @@ same-raise es place d h =
       back = λ x a. subst (Among x) parts (⊎-elim
           (λ is. among-right x (take place es) (getD es place d ∷ drop (place + 1) es) (inl is))
           (λ t. ⊎-elim
-              (λ l. among-left x (take place es) (getD es place d ∷ drop (place + 1) es) l)
-              (λ r. among-right x (take place es) (getD es place d ∷ drop (place + 1) es) (inr r))
-              (among-append x (take place es) (drop (place + 1) es) t))
-          a)
+          (λ l. among-left x (take place es) (getD es place d ∷ drop (place + 1) es) l)
+          (λ r. among-right x (take place es) (getD es place d ∷ drop (place + 1) es) (inr r))
+          (among-append x (take place es) (drop (place + 1) es) t))
+          a);
     }
 
 take-among : {X : Type 0} (x : X) (n : ℕ) (xs : List X) → Among x (take n xs) → Among x xs
@@ -64,7 +64,7 @@ inserts-push n new es few =
           a;
       gone = nth ks n;
       kept = λ e a no. ⊎-elim (λ l. inl (inr l)) (λ r. inr r)
-          (last-lost e n ks short (among-kept (stays new) e es a (not-from-false (givesWay new e) no)))
+          (last-lost e n ks short (among-kept (stays new) e es a (not-from-false (givesWay new e) no)));
     }
 
 pub enters-pushed : (n : ℕ) (new : Option Entry) (es fs : List Entry) → length es ≤ suc n → fs ≡ pushed (suc n) new es → Enters es new fs
@@ -73,12 +73,12 @@ enters-pushed n (Some new) es fs few is = subst (Inserts es new) (sym is) (inser
 
 pub closes-map : (tag : Tag) (n : ℕ) (es fs : List Entry) → fs ≡ map (closed tag n) es → Closes es tag n fs
 closes-map tag n es fs is = subst (Closes es tag n) (sym is) (record {
-    each = λ e a. among-map (closed tag n) e es a;
-    only = λ e a. among-mapped (closed tag n) e es a
+  each = λ e a. among-map (closed tag n) e es a;
+  only = λ e a. among-mapped (closed tag n) e es a;
 })
 
 pub drops-kept : (moment : ℕ) (es fs : List Entry) → fs ≡ kept-by (outlasts moment) es → Drops es moment fs
 drops-kept moment es fs is = subst (Drops es moment) (sym is) (record {
-    stay = λ e a no. among-kept (outlasts moment) e es a (not-from-false (endedBy moment e) no);
-    only = λ e a. let k = kept-among (outlasts moment) e es a in (k .0, not-true (endedBy moment e) (k .1))
+  stay = λ e a no. among-kept (outlasts moment) e es a (not-from-false (endedBy moment e) no);
+  only = λ e a. let k = kept-among (outlasts moment) e es a in (k .0, not-true (endedBy moment e) (k .1));
 })

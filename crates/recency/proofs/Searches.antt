@@ -38,24 +38,32 @@ module _ (key : Key) (ms : List ℕ) (delivered : ℕ) where
   leads-push es None x None h k = λ e a m b t.
       ⊎-elim (λ l. h e l m b t) (λ is. k m b (ap (λ (y : Entry). answers key delivered y m) (sym is) ∙ t)) (among-push e es x a)
   leads-push es (Some found) x None h k = (
-      omega (arith, length-push es x), h .1,
-      ap (λ (y : Entry). answers key delivered y (found .moment)) (getD-append-left es (x ∷ []) blankEntry (found .place) (h .0)) ∙ h .2,
-      λ e a m b t. ⊎-elim (λ l. h .3 e l m b t) (λ is. absurd (k m b (ap (λ (y : Entry). answers key delivered y m) (sym is) ∙ t))) (among-push e es x a))
+    omega (arith, length-push es x),
+    h .1,
+    ap (λ (y : Entry). answers key delivered y (found .moment)) (getD-append-left es (x ∷ []) blankEntry (found .place) (h .0)) ∙ h .2,
+    λ e a m b t. ⊎-elim (λ l. h .3 e l m b t) (λ is. absurd (k m b (ap (λ (y : Entry). answers key delivered y m) (sym is) ∙ t))) (among-push e es x a),
+  )
   leads-push es None x (Some moment) h k = (
-      omega (arith, length-push es x), k .0,
-      ap (λ (y : Entry). answers key delivered y moment) (getD-push es x blankEntry (length es) refl) ∙ k .1,
-      λ e a m b t. ⊎-elim (λ l. absurd (h e l m b t)) (λ is. k .2 m b (ap (λ (y : Entry). answers key delivered y m) (sym is) ∙ t)) (among-push e es x a))
+    omega (arith, length-push es x),
+    k .0,
+    ap (λ (y : Entry). answers key delivered y moment) (getD-push es x blankEntry (length es) refl) ∙ k .1,
+    λ e a m b t. ⊎-elim (λ l. absurd (h e l m b t)) (λ is. k .2 m b (ap (λ (y : Entry). answers key delivered y m) (sym is) ∙ t)) (among-push e es x a),
+  )
   leads-push es (Some found) x (Some moment) h k =
       cond-both (ltb (found .moment) moment) (Some (record { place = length es; moment = moment })) (Some found)
       (λ (best : Option Found). Leads (es ++ x ∷ []) key ms delivered best)
       (λ won. let below = ltb-true (found .moment) moment won in (
-          omega (arith, length-push es x), k .0,
-          ap (λ (y : Entry). answers key delivered y moment) (getD-push es x blankEntry (length es) refl) ∙ k .1,
-          λ e a m b t. ⊎-elim (λ l. let le = h .3 e l m b t in omega arith) (λ is. k .2 m b (ap (λ (y : Entry). answers key delivered y m) (sym is) ∙ t)) (among-push e es x a)))
+        omega (arith, length-push es x),
+        k .0,
+        ap (λ (y : Entry). answers key delivered y moment) (getD-push es x blankEntry (length es) refl) ∙ k .1,
+        λ e a m b t. ⊎-elim (λ l. let le = h .3 e l m b t in omega arith) (λ is. k .2 m b (ap (λ (y : Entry). answers key delivered y m) (sym is) ∙ t)) (among-push e es x a),
+      ))
       (λ lost. let below = ltb-false (found .moment) moment lost in (
-          omega (arith, length-push es x), h .1,
-          ap (λ (y : Entry). answers key delivered y (found .moment)) (getD-append-left es (x ∷ []) blankEntry (found .place) (h .0)) ∙ h .2,
-          λ e a m b t. ⊎-elim (λ l. h .3 e l m b t) (λ is. let le = k .2 m b (ap (λ (y : Entry). answers key delivered y m) (sym is) ∙ t) in omega arith) (among-push e es x a)))
+        omega (arith, length-push es x),
+        h .1,
+        ap (λ (y : Entry). answers key delivered y (found .moment)) (getD-append-left es (x ∷ []) blankEntry (found .place) (h .0)) ∙ h .2,
+        λ e a m b t. ⊎-elim (λ l. h .3 e l m b t) (λ is. let le = k .2 m b (ap (λ (y : Entry). answers key delivered y m) (sym is) ∙ t) in omega arith) (among-push e es x a),
+      ))
 
   pub leads-more : (xs : List Entry) (n i : ℕ) (best : Option Found) (x : Entry) (newest : Option ℕ) → i < length (take n xs) → x ≡ getD xs i blankEntry → Leads (take i (take n xs)) key ms delivered best → Newest (answers key delivered x) ms newest → Leads (take (i + 1) (take n xs)) key ms delivered (better best i newest)
   leads-more xs n i best x newest h is so k =

@@ -95,29 +95,29 @@ module _ {X : Type 0} (test : X → Bool) (new : X) (xs ys : List X) (carry : X)
       let here : x ≡ getD xs i d = is ∙ pushing-here in
       let inside : k < length ys = omega (arith, so .within, so .long) in
       let kept : kept-by test (take (i + 1) xs) ≡ kept-by test (take i xs) ++ x ∷ [] =
-          kept-by-more test xs i d h
-          ∙ ap (λ y. kept-by test (take i xs) ++ cond (test y) (y ∷ []) []) (sym here)
-          ∙ ap (λ l. kept-by test (take i xs) ++ l) (cond-true (test x) (x ∷ []) [] pass) in
+      kept-by-more test xs i d h
+      ∙ ap (λ y. kept-by test (take i xs) ++ cond (test y) (y ∷ []) []) (sym here)
+      ∙ ap (λ l. kept-by test (take i xs) ++ l) (cond-true (test x) (x ∷ []) [] pass) in
       record {
         front = ap (λ l. l ++ x ∷ []) (take-more-set ys k carry inside ∙ so .front) ∙ ap (λ l. new ∷ l) (sym kept);
         behind = drop-set-lt (i + 1) ys k carry (omega (arith, so .within)) ∙ later-same;
         within = omega (arith, so .within);
-        long = length-set ys k carry ∙ so .long
+        long = length-set ys k carry ∙ so .long;
       }
 
   pub pushing-leaves : (x : X) → x ≡ getD ys i d → test x ≡ false → Pushing test new xs ys carry k (i + 1)
   pushing-leaves x is fail =
       let here : x ≡ getD xs i d = is ∙ pushing-here in
       let kept : kept-by test (take (i + 1) xs) ≡ kept-by test (take i xs) =
-          kept-by-more test xs i d h
-          ∙ ap (λ y. kept-by test (take i xs) ++ cond (test y) (y ∷ []) []) (sym here)
-          ∙ ap (λ l. kept-by test (take i xs) ++ l) (cond-false (test x) (x ∷ []) [] fail)
-          ∙ append-nil (kept-by test (take i xs)) in
+      kept-by-more test xs i d h
+      ∙ ap (λ y. kept-by test (take i xs) ++ cond (test y) (y ∷ []) []) (sym here)
+      ∙ ap (λ l. kept-by test (take i xs) ++ l) (cond-false (test x) (x ∷ []) [] fail)
+      ∙ append-nil (kept-by test (take i xs)) in
       record {
         front = so .front ∙ ap (λ l. new ∷ l) (sym kept);
         behind = later-same;
         within = omega (arith, so .within);
-        long = so .long
+        long = so .long;
       }
 
 pub pushing-all : {X : Type 0} (test : X → Bool) (new : X) (xs ys : List X) (carry : X) (k i n : ℕ) → Pushing test new xs ys carry k i → i ≡ length (take n xs) → take (length ys) (take k ys ++ carry ∷ []) ≡ take (length xs) (new ∷ kept-by test (take n xs))

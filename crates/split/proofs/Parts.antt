@@ -54,27 +54,27 @@ pub record Part (side : Key → Bool) (gs vs hs ws : List Entry) : Type 0 where
 
 pub part-first : (es fs es′ : List Entry) → Part goesFirst es (halves es fs) es′ (halves es′ fs)
 part-first es fs es′ = record {
-    alike = first-same;
-    into = in-first es fs;
-    into-after = in-first es′ fs;
-    from = λ e a. ⊎-elim (λ l. inl l) (λ r. inr (in-second es′ fs e (r .0) (r .1), not-true (goesFirst (e .key)) (r .1))) (either-half es fs e a);
-    from-after = λ e a. ⊎-elim (λ l. inl l) (λ r. inr (in-second es fs e (r .0) (r .1), not-true (goesFirst (e .key)) (r .1))) (either-half es′ fs e a)
+  alike = first-same;
+  into = in-first es fs;
+  into-after = in-first es′ fs;
+  from = λ e a. ⊎-elim (λ l. inl l) (λ r. inr (in-second es′ fs e (r .0) (r .1), not-true (goesFirst (e .key)) (r .1))) (either-half es fs e a);
+  from-after = λ e a. ⊎-elim (λ l. inl l) (λ r. inr (in-second es fs e (r .0) (r .1), not-true (goesFirst (e .key)) (r .1))) (either-half es′ fs e a);
 }
 
 pub part-second : (es fs fs′ : List Entry) → Part goesSecond fs (halves es fs) fs′ (halves es fs′)
 part-second es fs fs′ = record {
-    alike = second-same;
-    into = in-second es fs;
-    into-after = in-second es fs′;
-    from = λ e a. ⊎-elim (λ l. inr (in-first es fs′ e (l .0) (l .1), ap not (l .1))) (λ r. inl r) (either-half es fs e a);
-    from-after = λ e a. ⊎-elim (λ l. inr (in-first es fs e (l .0) (l .1), ap not (l .1))) (λ r. inl r) (either-half es fs′ e a)
+  alike = second-same;
+  into = in-second es fs;
+  into-after = in-second es fs′;
+  from = λ e a. ⊎-elim (λ l. inr (in-first es fs′ e (l .0) (l .1), ap not (l .1))) (λ r. inl r) (either-half es fs e a);
+  from-after = λ e a. ⊎-elim (λ l. inr (in-first es fs e (l .0) (l .1), ap not (l .1))) (λ r. inl r) (either-half es fs′ e a);
 }
 
 module _ {side : Key → Bool} {gs vs hs ws : List Entry} (part : Part side gs vs hs ws) where
   pub part-same : Same gs hs → Same vs ws
   part-same same = record {
-      there = λ e a. ⊎-elim (λ l. part .into-after e (same .there e (l .0)) (l .1)) (λ r. r .0) (part .from e a);
-      back = λ e a. ⊎-elim (λ l. part .into e (same .back e (l .0)) (l .1)) (λ r. r .0) (part .from-after e a)
+    there = λ e a. ⊎-elim (λ l. part .into-after e (same .there e (l .0)) (l .1)) (λ r. r .0) (part .from e a);
+    back = λ e a. ⊎-elim (λ l. part .into e (same .back e (l .0)) (l .1)) (λ r. r .0) (part .from-after e a);
   }
 
   -- an entry that answers has the key, and is on its side
@@ -88,9 +88,10 @@ module _ {side : Key → Bool} {gs vs hs ws : List Entry} (part : Part side gs v
   pub part-looks : (key : Key) (ms : List ℕ) (delivered : ℕ) (r : Option Entry) → side key ≡ true → Looks gs key ms delivered r → Looks vs key ms delivered r
   part-looks key ms delivered None on h = λ e a m b t. h e (among-side key delivered e m on t a) m b t
   part-looks key ms delivered (Some hit) on h =
-      let newest = h .1 .0 in
-      (part .into hit (h .0) (answers-side key delivered hit newest on (h .1 .2)),
-          (newest, h .1 .1, h .1 .2, λ e a m b t. h .1 .3 e (among-side key delivered e m on t a) m b t))
+      let newest = h .1 .0 in (
+        part .into hit (h .0) (answers-side key delivered hit newest on (h .1 .2)),
+        (newest, h .1 .1, h .1 .2, λ e a m b t. h .1 .3 e (among-side key delivered e m on t a) m b t),
+      )
 
   part-stays : (new e : Entry) → side (new .key) ≡ true → side (e .key) ≡ false → givesWay new e ≡ false
   part-stays new e on off =
@@ -101,16 +102,16 @@ module _ {side : Key → Bool} {gs vs hs ws : List Entry} (part : Part side gs v
 
   pub part-inserts : (new : Entry) → side (new .key) ≡ true → Inserts gs new hs → Inserts vs new ws
   part-inserts new on ins = record {
-      added = part .into-after new (ins .added) on;
-      old = λ e a. ⊎-elim
-          (λ l. ⊎-elim (λ is. inl is) (λ was. inr (part .into e (was .0) (l .1), was .1)) (ins .old e (l .0)))
-          (λ r. inr (r .0, part-stays new e on (r .1)))
-          (part .from-after e a);
-      gone = ins .gone;
-      kept = λ e a no. ⊎-elim
-          (λ l. ⊎-elim (λ there. inl (part .into-after e there (l .1))) (λ lost. inr lost) (ins .kept e (l .0) no))
-          (λ r. inl (r .0))
-          (part .from e a)
+    added = part .into-after new (ins .added) on;
+    old = λ e a. ⊎-elim
+        (λ l. ⊎-elim (λ is. inl is) (λ was. inr (part .into e (was .0) (l .1), was .1)) (ins .old e (l .0)))
+        (λ r. inr (r .0, part-stays new e on (r .1)))
+        (part .from-after e a);
+    gone = ins .gone;
+    kept = λ e a no. ⊎-elim
+        (λ l. ⊎-elim (λ there. inl (part .into-after e there (l .1))) (λ lost. inr lost) (ins .kept e (l .0) no))
+        (λ r. inl (r .0))
+        (part .from e a);
   }
 
   pub part-enters : (key : Key) (reading : Reading) (interval : Interval) (tags : List Tag) → side key ≡ true → (hs ≡ gs → ws ≡ vs) → Enters gs (accepted key reading interval tags) hs → Enters vs (accepted key reading interval tags) ws
@@ -125,26 +126,26 @@ first-closed tag n e = ap goesFirst (closed-key tag n e)
 
 pub halves-closes : (es fs es′ fs′ : List Entry) (tag : Tag) (n : ℕ) → Closes es tag n es′ → Closes fs tag n fs′ → Closes (halves es fs) tag n (halves es′ fs′)
 halves-closes es fs es′ fs′ tag n a b = record {
-    each = λ e h. ⊎-elim
-        (λ l. in-first es′ fs′ (closed tag n e) (a .each e (l .0)) (first-closed tag n e ∙ l .1))
-        (λ r. in-second es′ fs′ (closed tag n e) (b .each e (r .0)) (ap not (first-closed tag n e) ∙ r .1))
-        (either-half es fs e h);
-    only = λ e h. ⊎-elim
-        (λ l. let w = a .only e (l .0) in
-            (w .0, in-first es fs (w .0) (w .1) (sym (first-closed tag n (w .0)) ∙ ap (λ (x : Entry). goesFirst (x .key)) (sym (w .2)) ∙ l .1), w .2))
-        (λ r. let w = b .only e (r .0) in
-            (w .0, in-second es fs (w .0) (w .1) (ap not (sym (first-closed tag n (w .0)) ∙ ap (λ (x : Entry). goesFirst (x .key)) (sym (w .2))) ∙ r .1), w .2))
-        (either-half es′ fs′ e h)
+  each = λ e h. ⊎-elim
+      (λ l. in-first es′ fs′ (closed tag n e) (a .each e (l .0)) (first-closed tag n e ∙ l .1))
+      (λ r. in-second es′ fs′ (closed tag n e) (b .each e (r .0)) (ap not (first-closed tag n e) ∙ r .1))
+      (either-half es fs e h);
+  only = λ e h. ⊎-elim
+      (λ l. let w = a .only e (l .0) in
+      (w .0, in-first es fs (w .0) (w .1) (sym (first-closed tag n (w .0)) ∙ ap (λ (x : Entry). goesFirst (x .key)) (sym (w .2)) ∙ l .1), w .2))
+      (λ r. let w = b .only e (r .0) in
+      (w .0, in-second es fs (w .0) (w .1) (ap not (sym (first-closed tag n (w .0)) ∙ ap (λ (x : Entry). goesFirst (x .key)) (sym (w .2))) ∙ r .1), w .2))
+      (either-half es′ fs′ e h);
 }
 
 pub halves-drops : (es fs es′ fs′ : List Entry) (moment : ℕ) → Drops es moment es′ → Drops fs moment fs′ → Drops (halves es fs) moment (halves es′ fs′)
 halves-drops es fs es′ fs′ moment a b = record {
-    stay = λ e h no. ⊎-elim
-        (λ l. in-first es′ fs′ e (a .stay e (l .0) no) (l .1))
-        (λ r. in-second es′ fs′ e (b .stay e (r .0) no) (r .1))
-        (either-half es fs e h);
-    only = λ e h. ⊎-elim
-        (λ l. let w = a .only e (l .0) in (in-first es fs e (w .0) (l .1), w .1))
-        (λ r. let w = b .only e (r .0) in (in-second es fs e (w .0) (r .1), w .1))
-        (either-half es′ fs′ e h)
+  stay = λ e h no. ⊎-elim
+      (λ l. in-first es′ fs′ e (a .stay e (l .0) no) (l .1))
+      (λ r. in-second es′ fs′ e (b .stay e (r .0) no) (r .1))
+      (either-half es fs e h);
+  only = λ e h. ⊎-elim
+      (λ l. let w = a .only e (l .0) in (in-first es fs e (w .0) (l .1), w .1))
+      (λ r. let w = b .only e (r .0) in (in-second es fs e (w .0) (r .1), w .1))
+      (either-half es′ fs′ e h);
 }

@@ -17,7 +17,7 @@ loop-i-again c =
     subst (λ (o : Option Found). Leads (take (c .loop-i .i + 1) (recent (c .args .self .now))) (c .args .key) (c .args .moments .now) (c .args .delivered) o)
     (sym (c .better-of-best .ensures))
     (leads-more (c .args .key) (c .args .moments .now) (c .args .delivered) (places (c .args .self .now)) (c .args .self .now .len) (c .loop-i .i) (c .loop-i .best)
-        (c .at .result) (c .newest-newest .result) (omega arith) (c .at .ensures) (c .loop-i .inv) (c .newest-newest .ensures))
+    (c .at .result) (c .newest-newest .result) (omega arith) (c .at .ensures) (c .loop-i .inv) (c .newest-newest .ensures))
 
 pub returns-in-Some : need.returns-in-Some
 returns-in-Some c =

@@ -43,5 +43,5 @@ returns c =
     let xs = places (c .args .self .now) in
     record {
       order = c .settle .ensures .order ∙ pushing-all (stays (c .args .new)) (c .args .new) xs (places (c .loop-i .self)) (c .loop-i .carry) (c .loop-i .next) (c .loop-i .i) (c .args .self .now .len) (c .loop-i .inv) (omega arith);
-      size = c .settle .ensures .size ∙ c .loop-i .inv .long
+      size = c .settle .ensures .size ∙ c .loop-i .inv .long;
     }

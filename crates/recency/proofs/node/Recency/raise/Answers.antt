@@ -20,11 +20,12 @@ put-requires c κs = omega (arith, length-take (c .args .self .now .len) (places
 pub loop-i-again : need.loop-i-again
 loop-i-again c =
     let xs = places (c .args .self .now) in
-    let before : c .loop-i .i < length xs = omega (arith, length-take (c .args .self .now .len) xs) in
-    (c .put .ensures .len ∙ c .loop-i .inv .0,
-        ap length (c .put .ensures .places) ∙ length-set (places (c .loop-i .self)) (c .loop-i .i) (c .loop-i .carry) ∙ c .loop-i .inv .1,
-        c .put .ensures .places ∙ shift-more xs (c .at-hit .result) (places (c .loop-i .self)) (c .loop-i .carry) (c .loop-i .i) blankEntry before (c .loop-i .inv .2) (c .loop-i .inv .3),
-        c .at-old .ensures ∙ shift-carry xs (c .at-hit .result) (places (c .loop-i .self)) (c .loop-i .i) blankEntry before (c .loop-i .inv .2))
+    let before : c .loop-i .i < length xs = omega (arith, length-take (c .args .self .now .len) xs) in (
+      c .put .ensures .len ∙ c .loop-i .inv .0,
+      ap length (c .put .ensures .places) ∙ length-set (places (c .loop-i .self)) (c .loop-i .i) (c .loop-i .carry) ∙ c .loop-i .inv .1,
+      c .put .ensures .places ∙ shift-more xs (c .at-hit .result) (places (c .loop-i .self)) (c .loop-i .carry) (c .loop-i .i) blankEntry before (c .loop-i .inv .2) (c .loop-i .inv .3),
+      c .at-old .ensures ∙ shift-carry xs (c .at-hit .result) (places (c .loop-i .self)) (c .loop-i .i) blankEntry before (c .loop-i .inv .2),
+    )
 
 pub put-requires-2 : need.put-requires-2
 put-requires-2 c κs = omega (arith, length-take (c .args .self .now .len) (places (c .args .self .now)), c .loop-i .inv .1)
@@ -37,5 +38,5 @@ returns c =
       hit = c .at-hit .ensures ∙ sym (getD-take (c .args .self .now .len) xs (c .args .place) blankEntry inside);
       order = raised (c .at-hit .result) xs (places (c .loop-i .self)) (places (c .put-2 .last .self)) (c .loop-i .carry) blankEntry (c .args .place) (c .loop-i .i)
           (c .args .self .now .len) (c .put-2 .last .self .len) (c .pre) (omega arith) (c .put-2 .ensures .len ∙ c .loop-i .inv .0) (c .loop-i .inv .2) (c .loop-i .inv .3) (c .put-2 .ensures .places);
-      size = ap length (c .put-2 .ensures .places) ∙ length-set (places (c .loop-i .self)) (c .args .place) (c .loop-i .carry) ∙ c .loop-i .inv .1
+      size = ap length (c .put-2 .ensures .places) ∙ length-set (places (c .loop-i .self)) (c .args .place) (c .loop-i .carry) ∙ c .loop-i .inv .1;
     }

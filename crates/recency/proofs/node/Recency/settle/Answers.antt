@@ -11,7 +11,7 @@ returns-then-has-place c =
     let xs = places (c .args .self .now) in
     record {
       order = settle-room xs (places (c .put .last .self)) (c .args .kept) (c .args .carry) (ltb-true (c .args .kept) (length xs) (sym (c .if-has-place .ensures tt))) (c .put .ensures .places);
-      size = ap length (c .put .ensures .places) ∙ length-set xs (c .args .kept) (c .args .carry)
+      size = ap length (c .put .ensures .places) ∙ length-set xs (c .args .kept) (c .args .carry);
     }
 
 pub returns-else-has-place : need.returns-else-has-place
@@ -19,5 +19,5 @@ returns-else-has-place c =
     let xs = places (c .args .self .now) in
     record {
       order = settle-full xs (c .args .kept) (c .args .carry) (c .pre) (ltb-false (c .args .kept) (length xs) (sym (c .if-has-place .ensures tt)));
-      size = refl
+      size = refl;
     }

@@ -22,8 +22,8 @@ returns c =
     let es = recent (c .args .self .now) in
     let fs = recent (c .loop-i .self) in
     let order : fs ≡ map (closed (c .args .tag) (c .args .moment)) es =
-        map-places (closed (c .args .tag) (c .args .moment)) (c .args .self .now .first .now) (c .closed-self .result) (c .loop-i .self .first .now)
-        (c .args .self .now .rest .now) (c .loop-i .self .rest .now) (c .loop-i .i) (c .args .self .now .len) (c .loop-i .self .len)
-        (c .loop-i .inv .1) (c .closed-self .ensures) (c .loop-i .inv .0) (omega arith) (c .loop-i .inv .3) in
+    map-places (closed (c .args .tag) (c .args .moment)) (c .args .self .now .first .now) (c .closed-self .result) (c .loop-i .self .first .now)
+    (c .args .self .now .rest .now) (c .loop-i .self .rest .now) (c .loop-i .i) (c .args .self .now .len) (c .loop-i .self .len)
+    (c .loop-i .inv .1) (c .closed-self .ensures) (c .loop-i .inv .0) (omega arith) (c .loop-i .inv .3) in
     let closing : Closes es (c .args .tag) (c .args .moment) fs = closes-map (c .args .tag) (c .args .moment) es fs order in
     record { closed = closing; sound = sound-closes closing; order = order; size = ap suc (c .loop-i .inv .2) }

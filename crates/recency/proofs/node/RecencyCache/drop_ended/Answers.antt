@@ -48,6 +48,6 @@ returns c =
     let fs = take (c .loop-i .next) (places (c .loop-i .self)) in
     let all : c .loop-i .i ≡ length es = omega arith in
     let order : fs ≡ kept-by (outlasts (c .args .moment)) es =
-        c .loop-i .inv .front ∙ ap (λ (n : ℕ). kept-by (outlasts (c .args .moment)) (take n xs)) all ∙ ap (kept-by (outlasts (c .args .moment))) (take-length (c .args .self .now .len) xs) in
+    c .loop-i .inv .front ∙ ap (λ (n : ℕ). kept-by (outlasts (c .args .moment)) (take n xs)) all ∙ ap (kept-by (outlasts (c .args .moment))) (take-length (c .args .self .now .len) xs) in
     let drops : Drops es (c .args .moment) fs = drops-kept (c .args .moment) es fs order in
     record { dropped = drops; sound = sound-drops drops; order = order; size = c .loop-i .inv .long }

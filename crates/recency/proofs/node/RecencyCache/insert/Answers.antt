@@ -16,11 +16,11 @@ returns-in-Some c =
     let fs = recent (c .push .last .self) in
     let new = accepted (c .args .key) (c .args .reading) (c .args .interval) (c .args .tags .now) in
     let order : fs ≡ pushed (sizeOf (c .args .self .now)) new es =
-        c .push .ensures .order ∙ ap (λ (o : Option Entry). pushed (sizeOf (c .args .self .now)) o es) (c .in-Some .ensures tt) in
+    c .push .ensures .order ∙ ap (λ (o : Option Entry). pushed (sizeOf (c .args .self .now)) o es) (c .in-Some .ensures tt) in
     let entered : Enters es new fs = enters-pushed (length (c .args .self .now .rest .now)) new es fs (omega (arith, length-take (c .args .self .now .len) (places (c .args .self .now)))) order in
     record {
       entered = entered;
       sound = sound-enters es fs (c .args .key) (c .args .reading) (c .args .interval) (c .args .tags .now) entered;
       order = order;
-      size = c .push .ensures .size
+      size = c .push .ensures .size;
     }

@@ -18,12 +18,12 @@ returns-in-Some c =
     let place = c .in-Some .place in
     let found = c .in-Some .ensures tt in
     let moved : recent (c .raise .last .self) ≡ getD es place blankEntry ∷ (take place es ++ drop (place + 1) es) =
-        c .raise .ensures .order ∙ ap (λ (x : Entry). x ∷ (take place es ++ drop (place + 1) es)) (c .raise .ensures .hit) in
+    c .raise .ensures .order ∙ ap (λ (x : Entry). x ∷ (take place es ++ drop (place + 1) es)) (c .raise .ensures .hit) in
     let same : Same es (recent (c .raise .last .self)) = subst (Same es) (sym moved) (same-raise es place blankEntry (found .0)) in
     record {
       answer = subst (λ (x : Entry). Looks es (c .args .key) (c .args .moments .now) (c .args .delivered) (Some x)) (sym (c .raise .ensures .hit)) (found .1);
       same = same;
       sound = sound-same same;
       order = (place, found .0, c .raise .ensures .hit, c .raise .ensures .order);
-      size = c .raise .ensures .size
+      size = c .raise .ensures .size;
     }

@@ -11,5 +11,5 @@ returns g c =
     let es′ = g .A·Cache .entries (c .close .last .self) in
     let fs′ = g .B·Cache .entries (c .close-2 .last .self) in
     let closing : Closes (halves es fs) (c .args .tag) (c .args .moment) (halves es′ fs′) =
-        halves-closes es fs es′ fs′ (c .args .tag) (c .args .moment) (c .close .ensures .closed) (c .close-2 .ensures .closed) in
+    halves-closes es fs es′ fs′ (c .args .tag) (c .args .moment) (c .close .ensures .closed) (c .close-2 .ensures .closed) in
     record { closed = closing; sound = sound-closes closing }

@@ -11,5 +11,5 @@ returns g c =
     let es′ = g .A·Cache .entries (c .drop-ended .last .self) in
     let fs′ = g .B·Cache .entries (c .drop-ended-2 .last .self) in
     let drops : Drops (halves es fs) (c .args .moment) (halves es′ fs′) =
-        halves-drops es fs es′ fs′ (c .args .moment) (c .drop-ended .ensures .dropped) (c .drop-ended-2 .ensures .dropped) in
+    halves-drops es fs es′ fs′ (c .args .moment) (c .drop-ended .ensures .dropped) (c .drop-ended-2 .ensures .dropped) in
     record { dropped = drops; sound = sound-drops drops }

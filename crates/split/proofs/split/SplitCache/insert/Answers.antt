@@ -13,11 +13,11 @@ returns-then-is-first g c =
     let fs = g .B·Cache .entries (c .args .self .now .second) in
     let es′ = g .A·Cache .entries (c .insert .last .self) in
     let entered : Enters (halves es fs) (accepted (c .args .key) (c .args .reading) (c .args .interval) (c .args .tags .now)) (halves es′ fs) =
-        part-enters (part-first es fs es′) (c .args .key) (c .args .reading) (c .args .interval) (c .args .tags .now)
-        (sym (c .if-is-first .ensures tt)) (λ is. ap (λ l. halves l fs) is) (c .insert .ensures .entered) in
+    part-enters (part-first es fs es′) (c .args .key) (c .args .reading) (c .args .interval) (c .args .tags .now)
+    (sym (c .if-is-first .ensures tt)) (λ is. ap (λ l. halves l fs) is) (c .insert .ensures .entered) in
     record {
       entered = entered;
-      sound = sound-enters (halves es fs) (halves es′ fs) (c .args .key) (c .args .reading) (c .args .interval) (c .args .tags .now) entered
+      sound = sound-enters (halves es fs) (halves es′ fs) (c .args .key) (c .args .reading) (c .args .interval) (c .args .tags .now) entered;
     }
 
 pub returns-else-is-first : need.returns-else-is-first
@@ -27,9 +27,9 @@ returns-else-is-first g c =
     let fs′ = g .B·Cache .entries (c .insert-else-is-first .last .self) in
     let on : goesSecond (c .args .key) ≡ true = ap not (sym (c .if-is-first .ensures tt)) in
     let entered : Enters (halves es fs) (accepted (c .args .key) (c .args .reading) (c .args .interval) (c .args .tags .now)) (halves es fs′) =
-        part-enters (part-second es fs fs′) (c .args .key) (c .args .reading) (c .args .interval) (c .args .tags .now)
-        on (λ is. ap (halves es) is) (c .insert-else-is-first .ensures .entered) in
+    part-enters (part-second es fs fs′) (c .args .key) (c .args .reading) (c .args .interval) (c .args .tags .now)
+    on (λ is. ap (halves es) is) (c .insert-else-is-first .ensures .entered) in
     record {
       entered = entered;
-      sound = sound-enters (halves es fs) (halves es fs′) (c .args .key) (c .args .reading) (c .args .interval) (c .args .tags .now) entered
+      sound = sound-enters (halves es fs) (halves es fs′) (c .args .key) (c .args .reading) (c .args .interval) (c .args .tags .now) entered;
     }

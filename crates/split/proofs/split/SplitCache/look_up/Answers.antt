@@ -16,7 +16,7 @@ returns-then-is-first g c =
     record {
       answer = part-looks part (c .args .key) (c .args .moments .now) (c .args .delivered) (c .look-up .result) (sym (c .if-is-first .ensures tt)) (c .look-up .ensures .answer);
       same = same;
-      sound = sound-same same
+      sound = sound-same same;
     }
 
 pub returns-else-is-first : need.returns-else-is-first
@@ -30,5 +30,5 @@ returns-else-is-first g c =
     record {
       answer = part-looks part (c .args .key) (c .args .moments .now) (c .args .delivered) (c .look-up-else-is-first .result) on (c .look-up-else-is-first .ensures .answer);
       same = same;
-      sound = sound-same same
+      sound = sound-same same;
     }
