@@ -1,9 +1,10 @@
 // Sets of at most 8 different tags.
 ghost use mathlib.Core.Path.{_≡_};
 ghost use mathlib.Core.List.{[]};
+ghost use lib.Dec.{leb};
 ghost use lib.ListN.{length};
 ghost use Rattle.std.specs.Options.{mapped};
-ghost use Rattle.std.specs.Finite.{nth};
+ghost use Rattle.terms.specs.Tags.{touches};
 ghost use Rattle.cache.specs.TagSets.{tagsOf, packed, isTag, hasTag, touched, setOf, withTag};
 use terms::Tag;
 
@@ -24,6 +25,13 @@ fn is_tag(one: Tag, other: Tag) -> bool
         _ => false,
     };
     one.table == other.table && keys
+}
+
+// Whether a change that bears the tag reaches what rests on the other.
+fn reaches(tag: Tag, other: Tag) -> bool
+    ensures { λ r. ⌜ r ≡ touches tag other ⌝ }
+{
+    tag.touches(other)
 }
 
 impl TagSet {
@@ -64,17 +72,13 @@ impl TagSet {
         self.count.min(8)
     }
 
-    // The tag at a place, counted from 0.
-    pub fn get(self, place: usize) -> Option<Tag>
-        ensures { λ r. ⌜ r ≡ nth (tagsOf self) place ⌝ }
+    fn is_full(self) -> bool
+        ensures { λ r. ⌜ r ≡ leb 8 (length (tagsOf self)) ⌝ }
     {
-        if place < self.len() {
-            Some(self.tags[place])
-        } else {
-            None
-        }
+        self.len() >= 8
     }
 
+    // The tags, in the order in which they came.
     pub fn as_slice(&self) -> &[Tag]
         ensures { λ r. ⌜ now r ≡ tagsOf (now (self .entry)) ⌝ }
     {
@@ -97,7 +101,7 @@ impl TagSet {
         ensures { λ r. ⌜ r ≡ touched tag (tagsOf self) ⌝ }
     {
         for i in 0..self.len() {
-            if tag.touches(self.tags[i]) {
+            if reaches(tag, self.tags[i]) {
                 return true;
             }
         }
@@ -111,10 +115,10 @@ impl TagSet {
         if self.contains(tag) {
             return Some(self);
         }
-        let count = self.len();
-        if count == 8 {
+        if self.is_full() {
             return None;
         }
+        let count = self.len();
         let mut set = self;
         set.tags[count] = tag;
         set.count = count + 1;

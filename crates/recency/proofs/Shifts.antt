@@ -128,3 +128,7 @@ pushing-all test new xs ys carry k i n so all =
 pub pushing-is : {X : Type 0} (test : X → Bool) (new : X) (xs ys zs : List X) (carry x : X) (k j i : ℕ) → zs ≡ ys → x ≡ carry → j ≡ k → Pushing test new xs ys carry k i → Pushing test new xs zs x j i
 pushing-is test new xs ys zs carry x k j i p q r so =
     subst (λ l. Pushing test new xs l x j i) (sym p) (subst (λ y. Pushing test new xs ys y j i) (sym q) (subst (λ (n : ℕ). Pushing test new xs ys carry n i) (sym r) so))
+
+pub first-put : {X : Type 0} (x y : X) (xs : List X) (n : ℕ) → 0 < n → take n (x ∷ xs) ≡ x ∷ drop 1 (take n (y ∷ xs))
+first-put x y xs zero h = let no : ⊥ = omega arith in absurd no
+first-put x y xs (suc n) h = refl

@@ -124,6 +124,33 @@ impl<'a> Recency<'a> {
         }
     }
 
+    // Takes the entry at the place out. Those before it move on by one place, and leave the first to be written.
+    fn take_out(&mut self, place: usize) -> Entry
+        requires { ⌜ place < length (recent (now self)) ⌝ }
+        ensures hit { λ r. ⌜ r ≡ getD (recent (now (self .entry))) place blankEntry ⌝ }
+        ensures others { λ _. ⌜ drop 1 (recent (now (self .exit))) ≡ take place (recent (now (self .entry))) ++ drop (place + 1) (recent (now (self .entry))) ⌝ }
+        ensures some { λ _. ⌜ 0 < now (self .exit) .len ⌝ }
+        ensures size { λ _. ⌜ sizeOf (now (self .exit)) ≡ sizeOf (now (self .entry)) ⌝ }
+    {
+        let hit = self.at(place);
+        let mut carry = self.at(0);
+        for i in 0..place {
+            let old = self.at(i);
+            self.put(i, carry);
+            carry = old;
+        }
+        self.put(place, carry);
+        hit
+    }
+
+    fn put_first(&mut self, entry: Entry)
+        requires { ⌜ 0 < now self .len ⌝ }
+        ensures order { λ _. ⌜ recent (now (self .exit)) ≡ entry ∷ drop 1 (recent (now (self .entry))) ⌝ }
+        ensures size { λ _. ⌜ sizeOf (now (self .exit)) ≡ sizeOf (now (self .entry)) ⌝ }
+    {
+        *self.first = entry;
+    }
+
     // Brings the entry at the place to the front, and answers it.
     fn raise(&mut self, place: usize) -> Entry
         requires { ⌜ place < length (recent (now self)) ⌝ }
@@ -131,14 +158,8 @@ impl<'a> Recency<'a> {
         ensures order { λ r. ⌜ recent (now (self .exit)) ≡ r ∷ (take place (recent (now (self .entry))) ++ drop (place + 1) (recent (now (self .entry)))) ⌝ }
         ensures size { λ _. ⌜ sizeOf (now (self .exit)) ≡ sizeOf (now (self .entry)) ⌝ }
     {
-        let hit = self.at(place);
-        let mut carry = hit;
-        for i in 0..place {
-            let old = self.at(i);
-            self.put(i, carry);
-            carry = old;
-        }
-        self.put(place, carry);
+        let hit = self.take_out(place);
+        self.put_first(hit);
         hit
     }
 

@@ -1,6 +1,7 @@
 // A cache over any two, each of which keeps the entries of some of the keys.
 ghost use mathlib.Core.Path.{_≡_};
 ghost use mathlib.Core.List.{[]};
+ghost use Rattle.cache.specs.Calls.{Closes, Drops};
 ghost use Rattle.split.specs.Halves.{goesFirst, halves};
 use cache::Cache;
 use cache::Entry;
@@ -22,6 +23,22 @@ fn is_first(key: Key) -> bool
     ensures { λ r. ⌜ r ≡ goesFirst key ⌝ }
 {
     (u64::from(key.sheet) + u64::from(key.argument)) % 2 == 0
+}
+
+fn close_both<A: Cache, B: Cache>(first: &mut A, second: &mut B, tag: Tag, moment: u64)
+    ensures first { λ _. ⌜ Closes (A·Cache .entries (now (first .entry))) tag moment (A·Cache .entries (now (first .exit))) ⌝ }
+    ensures second { λ _. ⌜ Closes (B·Cache .entries (now (second .entry))) tag moment (B·Cache .entries (now (second .exit))) ⌝ }
+{
+    first.close(tag, moment);
+    second.close(tag, moment);
+}
+
+fn drop_both<A: Cache, B: Cache>(first: &mut A, second: &mut B, moment: Moment)
+    ensures first { λ _. ⌜ Drops (A·Cache .entries (now (first .entry))) moment (A·Cache .entries (now (first .exit))) ⌝ }
+    ensures second { λ _. ⌜ Drops (B·Cache .entries (now (second .entry))) moment (B·Cache .entries (now (second .exit))) ⌝ }
+{
+    first.drop_ended(moment);
+    second.drop_ended(moment);
 }
 
 impl<A: Cache, B: Cache> Split<A, B> {
@@ -58,13 +75,11 @@ pub impl<A: Cache, B: Cache> Cache for Split<A, B> as SplitCache {
     }
 
     fn close(&mut self, tag: Tag, moment: u64) {
-        self.first.close(tag, moment);
-        self.second.close(tag, moment);
+        close_both(&mut self.first, &mut self.second, tag, moment);
     }
 
     fn drop_ended(&mut self, moment: Moment) {
-        self.first.drop_ended(moment);
-        self.second.drop_ended(moment);
+        drop_both(&mut self.first, &mut self.second, moment);
     }
 
     fn clear(&mut self) {

@@ -18,7 +18,7 @@ use terms::Reading;
 use terms::Tag;
 
 // What a cache answers at a moment right after one insert: the new entry, if it was accepted and covers the moment.
-pub fn only_entry<C: Cache>(
+fn only_entry<C: Cache>(
     cache: &mut C,
     key: Key,
     reading: Reading,

@@ -8,15 +8,15 @@ use Rattle.cache.specs.TagSets.{tagsOf, noTag, touched}
 use Rattle.cache.proofs.Walks.{some-hit, some-miss}
 use Rattle.cache.proofs.tag_set.TagSet.touches.Needs as need
 
-pub returns-then-touches : need.returns-then-touches
-returns-then-touches c =
+pub returns-then-reaches : need.returns-then-reaches
+returns-then-reaches c =
     let k : c .loop-i .i < length (tagsOf (c .args .self)) = omega arith in
-    some-hit (touches (c .args .tag)) (c .args .self .tags) (min (c .args .self .count) 8) (c .loop-i .i) noTag k (c .if-touches .ensures tt) ∙ c .loop-i .inv
+    some-hit (touches (c .args .tag)) (c .args .self .tags) (min (c .args .self .count) 8) (c .loop-i .i) noTag k (c .if-reaches .ensures tt) ∙ c .loop-i .inv
 
 pub loop-i-again : need.loop-i-again
 loop-i-again c =
     let k : c .loop-i .i < length (tagsOf (c .args .self)) = omega arith in
-    some-miss (touches (c .args .tag)) (c .args .self .tags) (min (c .args .self .count) 8) (c .loop-i .i) noTag k (c .if-touches .ensures tt) ∙ c .loop-i .inv
+    some-miss (touches (c .args .tag)) (c .args .self .tags) (min (c .args .self .count) 8) (c .loop-i .i) noTag k (c .if-reaches .ensures tt) ∙ c .loop-i .inv
 
 pub returns : need.returns
 returns c =

@@ -8,8 +8,8 @@ pub returns : need.returns
 returns g c =
     let es = g .A·Cache .entries (c .args .self .now .first) in
     let fs = g .B·Cache .entries (c .args .self .now .second) in
-    let es′ = g .A·Cache .entries (c .close .last .self) in
-    let fs′ = g .B·Cache .entries (c .close-2 .last .self) in
+    let es′ = g .A·Cache .entries (c .close-both .last .first) in
+    let fs′ = g .B·Cache .entries (c .close-both .last .second) in
     let closing : Closes (halves es fs) (c .args .tag) (c .args .moment) (halves es′ fs′) =
-    halves-closes es fs es′ fs′ (c .args .tag) (c .args .moment) (c .close .ensures .closed) (c .close-2 .ensures .closed) in
+    halves-closes es fs es′ fs′ (c .args .tag) (c .args .moment) (c .close-both .ensures .first) (c .close-both .ensures .second) in
     record { closed = closing; sound = sound-closes closing }

@@ -8,8 +8,8 @@ pub returns : need.returns
 returns g c =
     let es = g .A·Cache .entries (c .args .self .now .first) in
     let fs = g .B·Cache .entries (c .args .self .now .second) in
-    let es′ = g .A·Cache .entries (c .drop-ended .last .self) in
-    let fs′ = g .B·Cache .entries (c .drop-ended-2 .last .self) in
+    let es′ = g .A·Cache .entries (c .drop-both .last .first) in
+    let fs′ = g .B·Cache .entries (c .drop-both .last .second) in
     let drops : Drops (halves es fs) (c .args .moment) (halves es′ fs′) =
-    halves-drops es fs es′ fs′ (c .args .moment) (c .drop-ended .ensures .dropped) (c .drop-ended-2 .ensures .dropped) in
+    halves-drops es fs es′ fs′ (c .args .moment) (c .drop-both .ensures .first) (c .drop-both .ensures .second) in
     record { dropped = drops; sound = sound-drops drops }
