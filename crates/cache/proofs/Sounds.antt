@@ -21,8 +21,8 @@ use Rattle.cache.specs.declared.key.Key.{Key}
 use Rattle.cache.specs.Keys.{isKey}
 use Rattle.cache.specs.Lists.{Among, Same}
 use Rattle.cache.specs.TagSets.{tagsOf, packed, fewTags, newTo, touched}
-use Rattle.cache.specs.Entries.{accepts, accepted, hasMoment, inside, lasts, shareMoment, givesWay, isEnd, isOpen, closes, closed, endedAt, endsPast}
-use Rattle.cache.specs.Calls.{Inserts, Enters, Closes, Drops, Sound}
+use Rattle.cache.specs.Entries.{accepts, accepted, hasMoment, covers, knownAt, inside, lasts, shareMoment, givesWay, isEnd, isOpen, closes, closed, endedAt, endsPast}
+use Rattle.cache.specs.Calls.{Looks, Only, Inserts, Enters, Closes, Drops, Sound}
 use Rattle.cache.proofs.Walks.{tagsOf-packed}
 
 lasts-down : (until : Until) (k m : ℕ) → k ≤ m → lasts until m ≡ true → lasts until k ≡ true
@@ -148,3 +148,34 @@ sound-closes {xs} {ys} {tag} {n} closing sound = record {
       let other = closed-inside tag n (w .0) m (subst (λ (x : Entry). inside (x .interval) m ≡ true) (w .2) hf) in
       v .2 ∙ ap (closed tag n) (sound .apart (v .0) (w .0) (v .1) (w .1) same m one other) ∙ sym (w .2);
 }
+
+isKey-trans : (key one other : Key) → isKey key one ≡ true → isKey key other ≡ true → isKey one other ≡ true
+isKey-trans key one other h k =
+    let p = and-parts (eqb (key .sheet) (one .sheet)) (eqb (key .argument) (one .argument)) h in
+    let q = and-parts (eqb (key .sheet) (other .sheet)) (eqb (key .argument) (other .argument)) k in
+    and-from _ _
+    (eq-eqb (one .sheet) (other .sheet) (sym (eqb-true (key .sheet) (one .sheet) (p .0)) ∙ eqb-true (key .sheet) (other .sheet) (q .0)))
+    (eq-eqb (one .argument) (other .argument) (sym (eqb-true (key .argument) (one .argument) (p .1)) ∙ eqb-true (key .argument) (other .argument) (q .1)))
+
+known-lasts : (until : Until) (delivered m : ℕ) → knownAt delivered until m ≡ true → lasts until m ≡ true
+known-lasts (Ended end) delivered m h = h
+known-lasts (Open through) delivered m h = refl
+
+covered-inside : (delivered : ℕ) (e : Entry) (m : ℕ) → covers delivered e m ≡ true → inside (e .interval) m ≡ true
+covered-inside delivered e m h =
+    let p = and-parts (leb (e .interval .first) m) (knownAt delivered (e .interval .until) m) (and-parts (isMoment m) _ h .1) in
+    and-from _ _ (p .0) (known-lasts (e .interval .until) delivered m (p .1))
+
+-- the entry that covers the newest moment is the only one
+pub looks-only : (es : List Entry) (key : Key) (ms : List ℕ) (delivered : ℕ) (r : Option Entry) → Looks es key ms delivered r → Sound es → Only (Looks es key ms delivered) r
+looks-only es key ms delivered None miss sound None also = refl
+looks-only es key ms delivered None miss sound (Some hit) also = absurd (miss hit (also .0) (also .1 .0) (also .1 .1) (also .1 .2))
+looks-only es key ms delivered (Some hit) h sound None also = absurd (also hit (h .0) (h .1 .0) (h .1 .1) (h .1 .2))
+looks-only es key ms delivered (Some hit) h sound (Some other) also =
+    let above : h .1 .0 ≤ also .1 .0 = also .1 .3 hit (h .0) (h .1 .0) (h .1 .1) (h .1 .2) in
+    let below : also .1 .0 ≤ h .1 .0 = h .1 .3 other (also .0) (also .1 .0) (also .1 .1) (also .1 .2) in
+    let at : also .1 .0 ≡ h .1 .0 = omega arith in
+    let mine = and-parts (isKey key (hit .key)) (covers delivered hit (h .1 .0)) (h .1 .2) in
+    let its = and-parts (isKey key (other .key)) (covers delivered other (also .1 .0)) (also .1 .2) in
+    let here : covers delivered other (h .1 .0) ≡ true = ap (covers delivered other) (sym at) ∙ its .1 in
+    ap Some (sound .apart other hit (also .0) (h .0) (isKey-trans key (other .key) (hit .key) (its .0) (mine .0)) (h .1 .0) (covered-inside delivered other (h .1 .0) here) (covered-inside delivered hit (h .1 .0) (mine .1)))

@@ -32,6 +32,10 @@ Looks entries key moments delivered (Some hit) =
     × (answers key delivered hit newest ≡ true)
     × ((e : Entry) → Among e entries → (m : ℕ) → Among m moments → answers key delivered e m ≡ true → m ≤ newest))
 
+-- no other answer is as asked
+abbrev pub Only : (Option Entry → Type 0) → Option Entry → Type 0
+Only asked answer = (other : Option Entry) → asked other → other ≡ answer
+
 -- An insert adds the new entry. Those that give way to it leave, and perhaps one more.
 pub record Inserts (before : List Entry) (new : Entry) (after : List Entry) : Type 0 where
   pub added : Among new after

@@ -4,7 +4,7 @@ ghost use mathlib.Core.List.{List, []};
 ghost use Rattle.cache.specs.declared.entry.Entry.{Entry};
 ghost use Rattle.cache.specs.Lists.{Same};
 ghost use Rattle.cache.specs.Entries.{accepted};
-ghost use Rattle.cache.specs.Calls.{Looks, Enters, Closes, Drops, Sound};
+ghost use Rattle.cache.specs.Calls.{Looks, Only, Enters, Closes, Drops, Sound};
 use crate::entry::Entry;
 use crate::key::Key;
 use terms::Interval;
@@ -18,9 +18,11 @@ pub trait Cache {
     ghost entries: { Self → List Entry };
 
     // The entry that covers the newest listed moment that any entry of the key covers, or a miss.
+    // Where the entries are sound there is only one such answer.
     // An open entry covers up to `delivered`, the last moment whose changes have been closed.
     fn look_up(&mut self, key: Key, moments: &[Moment], delivered: Moment) -> Option<Entry>
         ensures answer { λ r. ⌜ Looks (entries (now (self .entry))) key (now (moments .entry)) delivered r ⌝ }
+        ensures only { λ r. ⌜ (Sound (entries (now (self .entry))) → Only (Looks (entries (now (self .entry))) key (now (moments .entry)) delivered) r) ⌝ }
         ensures same { λ _. ⌜ Same (entries (now (self .entry))) (entries (now (self .exit))) ⌝ }
         ensures sound { λ _. ⌜ (Sound (entries (now (self .entry))) → Sound (entries (now (self .exit)))) ⌝ };
 

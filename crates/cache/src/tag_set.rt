@@ -69,7 +69,7 @@ impl TagSet {
     pub fn len(self) -> usize
         ensures { λ r. ⌜ r ≡ length (tagsOf self) ⌝ }
     {
-        self.count.min(8)
+        self.tags.len().min(self.count)
     }
 
     fn is_full(self) -> bool

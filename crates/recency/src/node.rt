@@ -11,7 +11,7 @@ ghost use Rattle.std.specs.shelf.Lists.{kept-by};
 ghost use Rattle.terms.specs.declared.fault.Fault.the-variants.{OutOfRange};
 ghost use Rattle.cache.specs.Entries.{blankEntry, accepted, closed};
 ghost use Rattle.cache.specs.Lists.{Same};
-ghost use Rattle.cache.specs.Calls.{Looks, Enters, Closes, Drops, Sound};
+ghost use Rattle.cache.specs.Calls.{Looks, Only, Enters, Closes, Drops, Sound};
 ghost use Rattle.recency.specs.Nodes.{places, sizeOf, recent, stays, outlasts, Raises, pushed, Finds};
 use crate::place::Found;
 use crate::place::better_of;
@@ -202,6 +202,7 @@ pub impl Cache for Recency<'_> as RecencyCache {
 
     fn look_up(&mut self, key: Key, moments: &[Moment], delivered: Moment) -> Option<Entry>
         ensures answer { λ r. ⌜ Looks (recent (now (self .entry))) key (now (moments .entry)) delivered r ⌝ }
+        ensures only { λ r. ⌜ (Sound (recent (now (self .entry))) → Only (Looks (recent (now (self .entry))) key (now (moments .entry)) delivered) r) ⌝ }
         ensures same { λ _. ⌜ Same (recent (now (self .entry))) (recent (now (self .exit))) ⌝ }
         ensures sound { λ _. ⌜ (Sound (recent (now (self .entry))) → Sound (recent (now (self .exit)))) ⌝ }
         ensures order { λ r. ⌜ Raises (recent (now (self .entry))) r (recent (now (self .exit))) ⌝ }
