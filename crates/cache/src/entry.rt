@@ -136,6 +136,9 @@ impl Entry {
     pub fn newest(self, key: Key, moments: &[Moment], delivered: Moment) -> Option<Moment>
         ensures { λ r. ⌜ Newest (answers key delivered self) (now (moments .entry)) r ⌝ }
     {
+        if !key.is(self.key) {
+            return None;
+        }
         let mut newest = None;
         for i in 0..moments.len() {
             newest = self.newer(key, newest, moments[i], delivered);

@@ -13,7 +13,6 @@ ghost use Rattle.cache.specs.Entries.{blankEntry, accepted, closed};
 ghost use Rattle.cache.specs.Lists.{Same};
 ghost use Rattle.cache.specs.Calls.{Looks, Only, Enters, Closes, Drops, Sound};
 ghost use Rattle.recency.specs.Nodes.{places, sizeOf, recent, stays, outlasts, Raises, pushed, Finds};
-use crate::place::Found;
 use crate::place::better_of;
 use cache::Cache;
 use cache::Entry;
