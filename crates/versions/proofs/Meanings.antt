@@ -37,6 +37,7 @@ sound s good = record {
   few = good .few;
   once = good .once;
   past = λ m a. leb-true m (s .latest) (every-among (λ pin. leb pin (s .latest)) (s .pins) m (good .past) a);
+  listed = λ m t st h. (_, keys-in t st (rowsAt m (s .kept)) (good .apart m));
   counted = λ m t st keys h told.
       let few = few-keys t st (rowsAt m (s .kept)) keys (good .apart m) told in
       let a = length-map (kept-by (visible m) (s .kept)) (λ version. version .row) in

@@ -1,0 +1,5 @@
+pub mod Books
+pub mod Rules
+pub mod Calls
+pub mod Traces
+pub mod Law

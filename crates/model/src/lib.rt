@@ -1,0 +1,5 @@
+// The hall by definitions: its books, what each call does, and the law over any list of calls.
+mod call;
+
+pub use call::Call;
+pub use call::Reply;
