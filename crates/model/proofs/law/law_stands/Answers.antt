@@ -1,0 +1,5 @@
+use mathlib.Core.Path.{refl}
+use Rattle.model.proofs.law.law_stands.Needs as need
+
+pub returns : need.returns
+returns c = λ rules o trace hall lives. refl
