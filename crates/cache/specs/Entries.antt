@@ -1,5 +1,4 @@
 -- Entries: what an entry covers, which entries give way to a new one, and what a close makes of one.
-use mathlib.Core.Path.{_≡_}
 use mathlib.Core.Bool.{Bool, true, false, cond, _&&_}
 use mathlib.Core.List.{List, []}
 use Prim.Native.Nat.{ℕ, _+_, max}
@@ -62,6 +61,7 @@ shareMoment one other =
 abbrev pub givesWay : Entry → Entry → Bool
 givesWay new old = isKey (new .key) (old .key) && shareMoment (new .interval) (old .interval)
 
+-- an end is past the first moment, and is one; an open interval has none to ask for
 abbrev pub endsPast : ℕ → Until → Bool
 endsPast first (Ended end) = ltb first end && isEnd end
 endsPast first (Open through) = true
@@ -79,6 +79,7 @@ abbrev pub accepted : Key → Reading → Interval → List Tag → Option Entry
 accepted key reading interval list =
     cond (accepts key interval list) (Some (record { key = key; reading = reading; interval = interval; tags = packed list })) None
 
+-- an interval is open if it has no end
 abbrev pub isOpen : Until → Bool
 isOpen (Ended end) = false
 isOpen (Open through) = true
@@ -97,6 +98,7 @@ endedAt n entry =
 abbrev pub closed : Tag → ℕ → Entry → Entry
 closed tag n entry = cond (closes tag n entry) (endedAt n entry) entry
 
+-- an end at or before the moment
 abbrev pub endsBy : ℕ → Until → Bool
 endsBy moment (Ended end) = leb end moment
 endsBy moment (Open through) = false

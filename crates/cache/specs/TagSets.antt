@@ -30,6 +30,7 @@ sameKeys None None = true
 abbrev pub isTag : Tag → Tag → Bool
 isTag one other = eqb (one .table) (other .table) && sameKeys (one .key) (other .key)
 
+-- the tag is in the list
 abbrev pub hasTag : Tag → List Tag → Bool
 hasTag tag list = some (isTag tag) list
 

@@ -28,16 +28,18 @@ pub trait Cache {
 
     // Adds an entry, for which those of its key that share a moment with it leave, and perhaps one more.
     // Nothing changes if the interval has no moment, the sheet is 255, a tag repeats or there are over 8.
+    // A first number above the highest moment is no moment, and an end above the number after it is no end.
     fn insert(&mut self, key: Key, reading: Reading, interval: Interval, tags: &[Tag])
         ensures entered { λ _. ⌜ Enters (entries (now (self .entry))) (accepted key reading interval (now (tags .entry))) (entries (now (self .exit))) ⌝ }
         ensures sound { λ _. ⌜ (Sound (entries (now (self .entry))) → Sound (entries (now (self .exit)))) ⌝ };
 
     // Every open entry with a touching tag and a first moment below `moment` gets the end `moment`.
+    // Nothing changes if that is above the number after the highest moment.
     fn close(&mut self, tag: Tag, moment: u64)
         ensures closed { λ _. ⌜ Closes (entries (now (self .entry))) tag moment (entries (now (self .exit))) ⌝ }
         ensures sound { λ _. ⌜ (Sound (entries (now (self .entry))) → Sound (entries (now (self .exit)))) ⌝ };
 
-    // Removes the entries that have ended at or before the moment.
+    // Removes the entries that have ended at or before the moment. Any number will do.
     fn drop_ended(&mut self, moment: Moment)
         ensures dropped { λ _. ⌜ Drops (entries (now (self .entry))) moment (entries (now (self .exit))) ⌝ }
         ensures sound { λ _. ⌜ (Sound (entries (now (self .entry))) → Sound (entries (now (self .exit)))) ⌝ };

@@ -26,7 +26,8 @@ use terms::Tag;
 // The most entries that a node can keep.
 const MOST: usize = 1024;
 
-// A table that is not empty, whose first `len` places hold the entries by last use, the newest first.
+// A table with at least one place, whose first `len` places hold the entries by last use, the newest use first.
+// The first place is held apart, so that by its type alone a node can keep an entry.
 #[derive(Drop)]
 pub struct Recency<'a> {
     first: &'a mut Entry,
@@ -34,12 +35,14 @@ pub struct Recency<'a> {
     len: usize,
 }
 
+// Whether the old entry need not leave when the new one comes in.
 fn stays_with(new: Entry, old: Entry) -> bool
     ensures { λ r. ⌜ r ≡ stays new old ⌝ }
 {
     !old.gives_way(new)
 }
 
+// Whether the entry has not ended at or before the moment.
 fn is_lasting(entry: Entry, moment: Moment) -> bool
     ensures { λ r. ⌜ r ≡ outlasts moment entry ⌝ }
 {
@@ -79,6 +82,7 @@ impl<'a> Recency<'a> {
         self.len.saturating_sub(1).min(self.rest.len())
     }
 
+    // Whether the table has the place, counted from 0.
     fn has_place(&self, place: usize) -> bool
         ensures { λ r. ⌜ r ≡ ltb place (sizeOf (now (self .entry))) ⌝ }
     {

@@ -56,6 +56,7 @@ impl<A: Cache, B: Cache> Split<A, B> {
 }
 
 pub impl<A: Cache, B: Cache> Cache for Split<A, B> as SplitCache {
+    // The entries of each cache whose keys go there.
     ghost entries = { λ s. halves (A·Cache .entries (s .first)) (B·Cache .entries (s .second)) };
 
     fn look_up(&mut self, key: Key, moments: &[Moment], delivered: Moment) -> Option<Entry> {

@@ -1,6 +1,5 @@
 // A split of splits: three lent tables that are used as one cache.
 ghost use mathlib.Core.Path.{_≡_};
-ghost use mathlib.Core.List.{List, []};
 ghost use Rattle.std.specs.declared.result.Result.the-variants.{Ok};
 ghost use Rattle.cache.specs.Entries.{accepted};
 ghost use Rattle.split.specs.Halves.{seen};
