@@ -7,7 +7,7 @@ use Prim.Native.Nat.{ℕ, _+_, _≤_, _<_, max, min}
 use native.Mathlib.Omega.{arith}
 use lib.Dec.{eqb, leb, ltb}
 use lib.ListN.{length}
-use Rattle.std.proofs.shelf.Tests.{cases-bool, both-ways, cond-true, cond-false, leb-true, leb-false, le-leb, lt-leb, ltb-true, lt-ltb, and-from, and-parts, or-cases, or-right, or-left, or-from, or-parts, eqb-true, eq-eqb}
+use Rattle.std.proofs.shelf.Tests.{cases-bool, both-ways, cond-true, cond-false, leb-true, leb-false, le-leb, lt-leb, ltb-true, lt-ltb, and-from, and-parts, or-cases, or-right, or-left, or-from, or-parts, eqb-true, eq-eqb, cases-lt}
 use Rattle.std.specs.declared.option.Option.{Option}
 use Rattle.std.specs.declared.option.Option.the-variants.{Some, None}
 use Rattle.terms.specs.declared.interval.Interval.{Interval}
@@ -15,6 +15,7 @@ use Rattle.terms.specs.declared.interval.Until.{Until}
 use Rattle.terms.specs.declared.interval.Until.the-variants.{Ended, Open}
 use Rattle.terms.specs.declared.record.Query.{Query}
 use Rattle.terms.specs.declared.tag.Tag.{Tag}
+use Rattle.terms.specs.Moments.{highest}
 use Rattle.terms.specs.Intervals.{contains, reaches}
 use Rattle.terms.specs.Records.{Reading, queryTag}
 use Rattle.database.specs.declared.Answer.{Answer}
@@ -25,8 +26,8 @@ use Rattle.database.proofs.Readings.{reads-alike}
 use Rattle.cache.specs.declared.entry.Entry.{Entry}
 use Rattle.cache.specs.declared.key.Key.{Key}
 use Rattle.cache.specs.Lists.{Among}
-use Rattle.cache.specs.TagSets.{tagsOf, touched, packed, fewTags}
-use Rattle.cache.specs.Entries.{covers, knownAt, accepts, accepted, closes, closed, endedAt, isOpen, isEnd}
+use Rattle.cache.specs.TagSets.{tagsOf, touched, packed, fewTags, newTo}
+use Rattle.cache.specs.Entries.{covers, knownAt, hasMoment, accepts, accepted, closes, closed, endedAt, isOpen, isEnd}
 use Rattle.cache.proofs.Walks.{tagsOf-packed}
 use Rattle.recipe.specs.Recipes.{AgreeAll}
 use Rattle.model.specs.Books.{Part, Row}
@@ -127,7 +128,7 @@ enter-claim o h db T part key reading e P past forward is claim =
     ⊎-elim
     (λ (ok : accepts key (settled T part .interval) (settled T part .tags) ≡ true).
         let new : Entry = record { key = key; reading = reading; interval = settled T part .interval; tags = packed (settled T part .tags) } in
-        let few = leb-true _ 8 (and-parts _ _ (and-parts _ _ (and-parts _ _ ok .1) .1) .0) in
+        let few = leb-true (length (settled T part .tags)) 8 (and-parts (leb (length (settled T part .tags)) 8) (newTo [] (settled T part .tags)) (and-parts (hasMoment (settled T part .interval)) (fewTags (settled T part .tags)) (and-parts (ltb (key .sheet) 255) (hasMoment (settled T part .interval) && fewTags (settled T part .tags)) ok .1) .1) .0) in
         let own = tagsOf-packed (settled T part .tags) few in
         let same : new ≡ e = some-one new e (sym (cond-true (accepts key (settled T part .interval) (settled T part .tags)) _ _ ok) ∙ is) in
         let settled-claim = settle-part o h db T (part .interval .first) (part .interval .until) (part .tags) P past forward claim in
@@ -141,3 +142,81 @@ enter-claim o h db T part key reading e P past forward is claim =
 abbrev pub closedAll : List Row → ℕ → Entry → Entry
 closedAll [] n e = e
 closedAll (row ∷ rows) n e = closedAll rows n (closed (row .tag) n e)
+
+-- what the closes of a list of rows make of an entry: nothing, or an end at n
+pub data Comes-to (rows : List Row) (n : ℕ) (e : Entry) : Entry → Type 0 where
+  stays : ((row : Row) → Among row rows → closes (row .tag) n e ≡ false) → Comes-to rows n e e
+  ends : isOpen (e .interval .until) ≡ true → e .interval .first < n → Comes-to rows n e (endedAt n e)
+
+ended-stays : (rows : List Row) (n : ℕ) (e : Entry) → isOpen (e .interval .until) ≡ false → closedAll rows n e ≡ e
+ended-stays [] n e shut = refl
+ended-stays (row ∷ rows) n e shut =
+    let same : closed (row .tag) n e ≡ e = cond-false (closes (row .tag) n e) _ _ (let x = shut in grind arith) in
+    ap (closedAll rows n) same ∙ ended-stays rows n e shut
+
+pub comes-to : (rows : List Row) (n : ℕ) (e : Entry) → Comes-to rows n e (closedAll rows n e)
+comes-to [] n e = stays (λ row a. absurd a)
+comes-to (row ∷ rows) n e =
+    ⊎-elim
+    (λ (c : closes (row .tag) n e ≡ true).
+        let here : closed (row .tag) n e ≡ endedAt n e = cond-true (closes (row .tag) n e) _ _ c in
+        let parts = and-parts (isOpen (e .interval .until)) (ltb (e .interval .first) n && touched (row .tag) (tagsOf (e .tags))) (and-parts (isEnd n) (isOpen (e .interval .until) && (ltb (e .interval .first) n && touched (row .tag) (tagsOf (e .tags)))) c .1) in
+        let first = ltb-true (e .interval .first) n (and-parts (ltb (e .interval .first) n) (touched (row .tag) (tagsOf (e .tags))) (parts .1) .0) in
+        subst (Comes-to (row ∷ rows) n e) (sym (ap (closedAll rows n) here ∙ ended-stays rows n (endedAt n e) refl)) (ends (parts .0) first))
+    (λ (c : closes (row .tag) n e ≡ false).
+        let here : closed (row .tag) n e ≡ e = cond-false (closes (row .tag) n e) _ _ c in
+        subst (Comes-to (row ∷ rows) n e) (sym (ap (closedAll rows n) here)) (widened row rows n e (closedAll rows n e) c (comes-to rows n e)))
+    (cases-bool (closes (row .tag) n e))
+  where
+    widened : (row : Row) (rows : List Row) (n : ℕ) (e f : Entry) → closes (row .tag) n e ≡ false → Comes-to rows n e f → Comes-to (row ∷ rows) n e f
+    widened row rows n e f c (stays none) = stays (λ other a. ⊎-elim (λ is. ap (λ r. closes (r .tag) n e) is ∙ c) (λ b. none other b) a)
+    widened row rows n e f c (ends op first) = ends op first
+
+-- an entry that ends at n = T + 1 speaks of the moments up to T; one that goes on is not touched by the rows of n, or begins at n or later
+open-here : (o : Origin) (h : List Event) (u : Until) (S m : ℕ) (tags : List Tag) (P : Records → Type 0) → isOpen u ≡ true → m ≤ S → ClaimAt o h tags (throughT S u) m P → P (recordsAt o h m)
+open-here o h (Ended x) S m tags P op l c = absurd (both-ways _ refl op)
+open-here o h (Open t) S m tags P op l c = c (λ row in-it a k. absurd (omega arith)) (recordsAt o h m) (agree-self tags (recordsAt o h m))
+
+entry-ends : (o : Origin) (h : List Event) (db : Db) (T : ℕ) (e : Entry) (P : Records → Type 0) → T + 1 ≤ db .latest → isOpen (e .interval .until) ≡ true → e .interval .first < T + 1 → Claim o h db (entryPart T e) P → Claim o h db (entryPart (T + 1) (endedAt (T + 1) e)) P
+entry-ends o h db T e P past op first c = record {
+    within = omega arith; begins = c .begins; rests = tt;
+    holds = λ m hd l less. open-here o h (e .interval .until) (max T (e .interval .first)) m (tagsOf (e .tags)) P op (omega arith) (c .holds m hd l) }
+
+abbrev Spared : Origin → List Event → ℕ → Entry → Type 0
+Spared o h n e = (row : Row) → Among row (rowsOf o h) → row .moment ≡ n → closes (row .tag) n e ≡ false
+
+not-touched : (n : ℕ) (tag : Tag) (e : Entry) → n ≤ highest → isOpen (e .interval .until) ≡ true → e .interval .first < n → closes tag n e ≡ false → touched tag (tagsOf (e .tags)) ≡ false
+not-touched n tag e top op first c =
+    let a : isEnd n ≡ true = le-leb n (highest + 1) (omega arith) in
+    let b : ltb (e .interval .first) n ≡ true = lt-ltb (e .interval .first) n first in
+    ⊎-elim (λ (t : touched tag (tagsOf (e .tags)) ≡ true). absurd (both-ways (closes tag n e) c (and-from _ _ a (and-from _ _ op (and-from _ _ b t))))) (λ (t : touched tag (tagsOf (e .tags)) ≡ false). t) (cases-bool (touched tag (tagsOf (e .tags))))
+
+goes-at : (o : Origin) (h : List Event) (T m : ℕ) (e : Entry) (u : Until) (P : Records → Type 0) → e .interval .until ≡ u → T + 1 ≤ highest → Spared o h (T + 1) e
+    → ClaimAt o h (tagsOf (e .tags)) (throughT (max T (e .interval .first)) u) m P → ClaimAt o h (tagsOf (e .tags)) (throughT (max (T + 1) (e .interval .first)) u) m P
+goes-at o h T m e (Ended x) P is top spared c = c
+goes-at o h T m e (Open t) P is top spared c = λ un z agree.
+    c (λ row in-it a k. ⊎-elim
+        (λ later. un row in-it later k)
+        (λ at. let f = e .interval .first in
+            let now : row .moment ≡ T + 1 = omega arith in
+            not-touched (T + 1) (row .tag) e top (ap isOpen is) (omega arith) (spared row in-it now))
+        (cases-lt (max (T + 1) (e .interval .first)) (row .moment))) z agree
+
+goes-rests : (T first l : ℕ) (u : Until) (tags : List Tag) → T + 1 ≤ l → first ≤ l → Rests (throughT (max (T + 1) first) u) tags l
+goes-rests T first l (Ended x) tags a b = tt
+goes-rests T first l (Open t) tags a b = inl (omega arith)
+
+goes-within : (T S first l : ℕ) (u : Until) → Within (throughT T u) l → Within (throughT S u) l
+goes-within T S first l (Ended x) w = w
+goes-within T S first l (Open t) w = tt
+
+entry-goes : (o : Origin) (h : List Event) (db : Db) (T : ℕ) (e : Entry) (P : Records → Type 0) → T + 1 ≤ db .latest → db .latest ≤ highest → Spared o h (T + 1) e → Claim o h db (entryPart T e) P → Claim o h db (entryPart (T + 1) e) P
+entry-goes o h db T e P past top spared c = record {
+    within = goes-within (max T (e .interval .first)) (max (T + 1) (e .interval .first)) (e .interval .first) (db .latest) (e .interval .until) (c .within);
+    begins = c .begins;
+    rests = goes-rests T (e .interval .first) (db .latest) (e .interval .until) (tagsOf (e .tags)) past (c .begins);
+    holds = λ m hd l. goes-at o h T m e (e .interval .until) P refl (omega arith) spared (c .holds m hd l) }
+
+pub deliver-claim : (o : Origin) (h : List Event) (db : Db) (T : ℕ) (rows : List Row) (e f : Entry) (P : Records → Type 0) → T + 1 ≤ db .latest → db .latest ≤ highest → ((row : Row) → Among row (rowsOf o h) → row .moment ≡ T + 1 → Among row rows) → Comes-to rows (T + 1) e f → Claim o h db (entryPart T e) P → Claim o h db (entryPart (T + 1) f) P
+deliver-claim o h db T rows e f P past top all (stays none) c = entry-goes o h db T e P past top (λ row in-it is. none row (all row in-it is)) c
+deliver-claim o h db T rows e f P past top all (ends op first) c = entry-ends o h db T e P past op first c
