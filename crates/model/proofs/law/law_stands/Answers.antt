@@ -1,5 +1,6 @@
 use mathlib.Core.Path.{refl}
 use Rattle.model.proofs.Parts.{enter-claim}
+use Rattle.model.proofs.Towers.{stack-done}
 use Rattle.model.proofs.law.law_stands.Needs as need
 
 pub returns : need.returns
