@@ -2,3 +2,4 @@ pub mod Claims
 pub mod Moves
 pub mod Parts
 pub mod Towers
+pub mod Cores

@@ -1,11 +1,10 @@
 // The law over any list of calls.
-ghost use Rattle.model.specs.Traces.{Lives, Event};
-ghost use Prim.Native.Nat.{ℕ};
-ghost use mathlib.Core.Path.{_≡_};
-ghost use Rattle.model.specs.Law.{Stands};
+ghost use Rattle.model.specs.Law.{Law-stands, Always-held, Halls-agree};
 
+// After every list of calls from a making: readings are right at each moment of a pin set, the moments of pin sets are pinned,
+// and the books hold exactly the open transactions, with the uses of each pin.
 pub fn law_stands() -> u8
-    ensures { λ _. ⌜ Stands ⌝ }
+    ensures { λ _. ⌜ Law-stands ⌝ }
 {
     0
 }

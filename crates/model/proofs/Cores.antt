@@ -1,0 +1,125 @@
+-- What is carried from call to call.
+use mathlib.Core.Path.{_≡_, refl, sym, ap, _∙_, subst}
+use mathlib.Core.Bool.{Bool, true, false, cond, _&&_, _||_, not}
+use mathlib.Core.List.{List, [], _∷_, _++_, map}
+use mathlib.Core.Logic.{_⊎_, inl, inr, ⊎-elim}
+use Prim.Native.Nat.{ℕ, zero, suc, _+_, _-_, _≤_, _<_, max, min}
+use native.Mathlib.Omega.{arith}
+use lib.Dec.{eqb, leb, ltb}
+use lib.ListN.{length}
+use Rattle.std.proofs.shelf.Ways.{tells}
+use Rattle.std.proofs.shelf.Tests.{cases-bool, both-ways, cond-true, cond-false, leb-true, leb-false, le-leb, lt-leb, ltb-true, lt-ltb, and-from, and-parts, or-cases, or-right, or-left, or-from, or-parts, eqb-true, eqb-false, eq-eqb, ne-eqb, cases-lt, not-true, not-false}
+use Rattle.std.specs.declared.option.Option.{Option}
+use Rattle.std.specs.declared.option.Option.the-variants.{Some, None}
+use Rattle.std.specs.shelf.Lists.{kept-by}
+use Rattle.terms.specs.declared.interval.Interval.{Interval}
+use Rattle.terms.specs.declared.interval.Until.the-variants.{Ended, Open}
+use Rattle.terms.specs.Intervals.{contains, reaches}
+use Rattle.database.specs.Lists.{among, distinct, added, without}
+use Rattle.database.specs.States.{Records, Reads}
+use Rattle.database.specs.Databases.{Db, held, Sound}
+use Rattle.database.proofs.Sets.{among-kept, among-added, among-without}
+use Rattle.cache.specs.declared.entry.Entry.{Entry}
+use Rattle.cache.specs.Lists.{Among, Same}
+use Rattle.recipe.specs.Recipes.{Rules, Gives}
+use Rattle.model.specs.Books.{Pin, Part, Frame, Transaction, Row, Books, Hall, wholePart, freshFrame, moments, find, replaced, removed, newestOf, withTransactions}
+use Rattle.model.specs.Rules.{narrowed, cut, meet}
+use Rattle.model.specs.Calls.{Given, Question, ofQuery, ofSheet, withTx, withFrames}
+use Rattle.model.specs.Traces.{Origin, Event, isWrite, latestOf, recordsAt, rowsOf, Lives}
+use Rattle.model.specs.Law.{Right, GivenIn, Law, Law-stands, numbers, holders}
+use Rattle.model.proofs.Claims.{Claim, claim-map, claim-here, meet-contains}
+use Rattle.model.proofs.Moves.{Faithful, claim-skip, records-skip, latest-skip, rows-skip}
+use Rattle.model.proofs.Parts.{entryPart}
+use Rattle.model.proofs.Towers.{Stack, nth}
+
+-- an entry is good: it claims the value of its key
+abbrev pub EntryGood : Rules → Origin → List Event → Db → ℕ → Entry → Type 0
+EntryGood p o h db T e = Claim o h db (entryPart T e) (λ z. Gives p z (e .key .sheet) (e .key .argument) (e .reading))
+
+pub record TxGood (p : Rules) (o : Origin) (h : List Event) (db : Db) (pins : List Pin) (next : ℕ) (tx : Transaction) : Type 0 where
+  pub younger : tx .number < next
+  pub holds : (m : ℕ) → among m (tx .set) ≡ true → among m (tx .holds) ≡ true
+  pub pinned : (m : ℕ) → among m (tx .holds) ≡ true → among m (moments pins) ≡ true
+  pub some : tx .present ≡ false → (m : ℕ) × (among m (tx .set) ≡ true)
+  pub whole : tx .present ≡ true → (i : ℕ) (g : Frame) → nth i (tx .frames) ≡ Some g → g .part ≡ wholePart
+  pub unread : tx .present ≡ true → (given : Given) → GivenIn given h → given .number ≡ tx .number → ⊥
+  pub inside : (m : ℕ) → among m (tx .set) ≡ true → (i : ℕ) (g : Frame) → nth i (tx .frames) ≡ Some g → contains (g .part .interval) m ≡ true
+  pub stack : Stack p o h db (tx .frames)
+  pub sheets : (i : ℕ) (g : Frame) → nth i (tx .frames) ≡ Some g → (g .point .sheet < p .sheets) × (g .answers < 32)
+  pub right : (given : Given) → GivenIn given h → given .number ≡ tx .number → (m : ℕ) → among m (tx .set) ≡ true → Right p (recordsAt o h m) (given .question) (given .reading)
+
+pub record Core (p : Rules) (o : Origin) (h : List Event) (hall : Hall) : Type 0 where
+  pub latest : hall .db .latest ≡ latestOf o h
+  pub past : hall .books .delivered ≤ hall .db .latest
+  pub stream : hall .books .rows ≡ kept-by (λ row. ltb (hall .books .delivered) (row .moment)) (rowsOf o h)
+  pub sound : Sound (hall .db)
+  pub faithful : Faithful o h (hall .db)
+  pub same : (m : ℕ) → among m (hall .db .pins) ≡ among m (moments (hall .books .pins))
+  pub once : distinct (moments (hall .books .pins)) ≡ true
+  pub uses : (pin : Pin) → Among pin (hall .books .pins) → pin .uses ≡ holders (pin .moment) (hall .books .txs)
+  pub apart : distinct (numbers (hall .books .txs)) ≡ true
+  pub entries : (e : Entry) → Among e (hall .entries) → EntryGood p o h (hall .db) (hall .books .delivered) e
+  pub txs : (tx : Transaction) → Among tx (hall .books .txs) → TxGood p o h (hall .db) (hall .books .pins) (hall .books .next) tx
+  pub givens : (given : Given) → GivenIn given h → given .number < hall .books .next
+
+-- the entries of a cache may come and go, as long as each is good
+pub core-entries : (p : Rules) (o : Origin) (h : List Event) (hall : Hall) (entries : List Entry) → Core p o h hall → ((e : Entry) → Among e entries → EntryGood p o h (hall .db) (hall .books .delivered) e)
+    → Core p o h (record { db = hall .db; entries = entries; books = hall .books })
+core-entries p o h hall entries core good = record {
+    latest = core .latest; past = core .past; stream = core .stream; sound = core .sound; faithful = core .faithful; same = core .same; once = core .once;
+    uses = core .uses; apart = core .apart; entries = good; txs = core .txs; givens = core .givens }
+
+-- transactions
+some-tx : (one other : Transaction) → Some one ≡ Some other → one ≡ other
+some-tx one other e = cc
+
+none-tx : (tx : Transaction) → None ≡ Some tx → ⊥
+none-tx tx e = let z : _≡_ {A = ℕ} 0 1 = cc in omega arith
+
+pub found : (n : ℕ) (txs : List Transaction) (tx : Transaction) → find n txs ≡ Some tx → Among tx txs × (tx .number ≡ n)
+found n [] tx e = absurd (none-tx tx e)
+found n (t ∷ txs) tx e =
+    ⊎-elim
+    (λ (is : eqb n (t .number) ≡ true). let same = some-tx t tx (sym (cond-true (eqb n (t .number)) _ _ is) ∙ e) in (inl (sym same), ap (λ (x : Transaction). x .number) (sym same) ∙ sym (eqb-true n (t .number) is)))
+    (λ (is : eqb n (t .number) ≡ false). let rest = found n txs tx (sym (cond-false (eqb n (t .number)) _ _ is) ∙ e) in (inr (rest .0), rest .1))
+    (cases-bool (eqb n (t .number)))
+
+-- what stands after one was replaced
+pub in-replaced : (tx′ : Transaction) (txs : List Transaction) (t : Transaction) → Among t (replaced tx′ txs) → (t ≡ tx′) ⊎ Among t txs
+in-replaced tx′ [] t a = absurd a
+in-replaced tx′ (x ∷ txs) t a =
+    ⊎-elim
+    (λ (is : eqb (tx′ .number) (x .number) ≡ true). ⊎-elim inl (λ b. inr (inr b)) (subst (Among t) (cond-true (eqb (tx′ .number) (x .number)) _ _ is) a))
+    (λ (is : eqb (tx′ .number) (x .number) ≡ false). ⊎-elim (λ e. inr (inl e)) (λ b. ⊎-elim inl (λ c. inr (inr c)) (in-replaced tx′ txs t b)) (subst (Among t) (cond-false (eqb (tx′ .number) (x .number)) _ _ is) a))
+    (cases-bool (eqb (tx′ .number) (x .number)))
+
+pub numbers-replaced : (tx′ : Transaction) (txs : List Transaction) → numbers (replaced tx′ txs) ≡ numbers txs
+numbers-replaced tx′ [] = refl
+numbers-replaced tx′ (x ∷ txs) =
+    ⊎-elim
+    (λ (is : eqb (tx′ .number) (x .number) ≡ true). ap numbers (cond-true (eqb (tx′ .number) (x .number)) _ _ is) ∙ ap (λ n. n ∷ numbers txs) (eqb-true (tx′ .number) (x .number) is))
+    (λ (is : eqb (tx′ .number) (x .number) ≡ false). ap numbers (cond-false (eqb (tx′ .number) (x .number)) _ _ is) ∙ ap (λ ns. x .number ∷ ns) (numbers-replaced tx′ txs))
+    (cases-bool (eqb (tx′ .number) (x .number)))
+
+among-number : (t : Transaction) (txs : List Transaction) → Among t txs → among (t .number) (numbers txs) ≡ true
+among-number t [] a = absurd a
+among-number t (x ∷ txs) a = ⊎-elim (λ is. or-left _ _ (eq-eqb (t .number) (x .number) (ap (λ (y : Transaction). y .number) is))) (λ b. or-right _ _ (among-number t txs b)) a
+
+-- a number is that of one transaction
+pub only-one : (n : ℕ) (txs : List Transaction) (tx t : Transaction) → distinct (numbers txs) ≡ true → find n txs ≡ Some tx → Among t txs → t .number ≡ n → t ≡ tx
+only-one n [] tx t d e a is = absurd a
+only-one n (x ∷ txs) tx t d e a is =
+    let parts = and-parts _ _ d in
+    ⊎-elim
+    (λ (here : eqb n (x .number) ≡ true).
+        let same = some-tx x tx (sym (cond-true (eqb n (x .number)) _ _ here) ∙ e) in
+        ⊎-elim (λ top. top ∙ same)
+        (λ b. let clash : among (x .number) (numbers txs) ≡ true = ap (λ k. among k (numbers txs)) (sym (eqb-true n (x .number) here) ∙ sym is) ∙ among-number t txs b in
+            absurd (both-ways (among (x .number) (numbers txs)) (not-true _ (parts .0)) clash)) a)
+    (λ (here : eqb n (x .number) ≡ false).
+        ⊎-elim (λ top. absurd (eqb-false n (x .number) here (sym is ∙ ap (λ (y : Transaction). y .number) top)))
+        (λ b. only-one n txs tx t (parts .1) (sym (cond-false (eqb n (x .number)) _ _ here) ∙ e) b is) a)
+    (cases-bool (eqb n (x .number)))
+
+pub law-stands : Law-stands
+law-stands rules o trace hall lives = ?
