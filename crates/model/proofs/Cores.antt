@@ -28,7 +28,8 @@ use Rattle.model.specs.Calls.{Given, Question, ofQuery, ofSheet, withTx, withF
 use Rattle.model.specs.Traces.{Origin, Event, isWrite, latestOf, recordsAt, rowsOf, Lives}
 use Rattle.model.specs.Law.{Right, GivenIn, Law, Law-stands, numbers, holders}
 use Rattle.model.proofs.Claims.{Claim, claim-map, claim-here, meet-contains}
-use Rattle.model.proofs.Moves.{Faithful, claim-skip, records-skip, latest-skip, rows-skip}
+use Rattle.terms.specs.Records.{Reading}
+use Rattle.model.proofs.Moves.{Faithful, claim-skip, claim-held, records-skip, latest-skip, rows-skip}
 use Rattle.model.proofs.Parts.{entryPart}
 use Rattle.model.proofs.Towers.{Stack, nth}
 
@@ -121,5 +122,121 @@ only-one n (x ∷ txs) tx t d e a is =
         (λ b. only-one n txs tx t (parts .1) (sym (cond-false (eqb n (x .number)) _ _ here) ∙ e) b is) a)
     (cases-bool (eqb n (x .number)))
 
-pub law-stands : Law-stands
-law-stands rules o trace hall lives = ?
+-- a call that writes nothing, and gives nothing or what is right
+pub stack-skip : (p : Rules) (o : Origin) (h : List Event) (e : Event) (db : Db) (frames : List Frame) → isWrite (e .reply) ≡ false → Stack p o h db frames → Stack p o (e ∷ h) db frames
+stack-skip p o h e db frames w stack i g is = claim-skip o h e db (g .part) _ w (stack i g is)
+
+right-skip : (p : Rules) (o : Origin) (h : List Event) (e : Event) (m : ℕ) (q : Question) (r : Reading) → isWrite (e .reply) ≡ false → Right p (recordsAt o h m) q r → Right p (recordsAt o (e ∷ h) m) q r
+right-skip p o h e m q r w x = subst (λ s. Right p s q r) (sym (records-skip o h e m w)) x
+
+-- what an event gives is right for the transaction
+abbrev pub GivesRight : Rules → Origin → List Event → Event → ℕ → List Transaction → Type 0
+GivesRight p o h e next txs = (given : Given) → e .given ≡ Some given → (given .number < next)
+    × ((tx : Transaction) → Among tx txs → given .number ≡ tx .number → (tx .present ≡ false) × ((m : ℕ) → among m (tx .set) ≡ true → Right p (recordsAt o h m) (given .question) (given .reading)))
+
+tx-append : (p : Rules) (o : Origin) (h : List Event) (e : Event) (db : Db) (pins : List Pin) (next : ℕ) (txs : List Transaction) (tx : Transaction) → isWrite (e .reply) ≡ false → GivesRight p o h e next txs → Among tx txs → TxGood p o h db pins next tx → TxGood p o (e ∷ h) db pins next tx
+tx-append p o h e db pins next txs tx w gives in-it good = record {
+    younger = good .younger; holds = good .holds; pinned = good .pinned; some = good .some; whole = good .whole;
+    unread = λ pr given g is. ⊎-elim (λ now. both-ways (tx .present) (gives given now .1 tx in-it is .0) pr) (λ old. good .unread pr given old is) g;
+    inside = good .inside;
+    stack = stack-skip p o h e db (tx .frames) w (good .stack);
+    sheets = good .sheets;
+    right = λ given g is m a. right-skip p o h e m (given .question) (given .reading) w (⊎-elim (λ now. gives given now .1 tx in-it is .1 m a) (λ old. good .right given old is m a) g) }
+
+pub core-append : (p : Rules) (o : Origin) (h : List Event) (e : Event) (hall : Hall) → isWrite (e .reply) ≡ false → GivesRight p o h e (hall .books .next) (hall .books .txs) → Core p o h hall → Core p o (e ∷ h) hall
+core-append p o h e hall w gives core = record {
+    latest = core .latest ∙ sym (latest-skip o h e w);
+    past = core .past;
+    stream = core .stream ∙ ap (kept-by (λ row. ltb (hall .books .delivered) (row .moment))) (sym (rows-skip o h e w));
+    sound = core .sound;
+    faithful = λ m t k hd. core .faithful m t k hd ∙ ap (λ (s : Records). s t k) (sym (records-skip o h e m w));
+    same = core .same; once = core .once; uses = core .uses; apart = core .apart;
+    entries = λ x a. claim-skip o h e (hall .db) _ _ w (core .entries x a);
+    txs = λ tx a. tx-append p o h e (hall .db) (hall .books .pins) (hall .books .next) (hall .books .txs) tx w gives a (core .txs tx a);
+    givens = λ given g. ⊎-elim (λ now. gives given now .0) (λ old. core .givens given old) g }
+
+pub gives-nothing : (p : Rules) (o : Origin) (h : List Event) (e : Event) (next : ℕ) (txs : List Transaction) → e .given ≡ None → GivesRight p o h e next txs
+gives-nothing p o h e next txs none given is = absurd (none-given given (sym none ∙ is))
+  where
+    none-given : (g : Given) → None ≡ Some g → ⊥
+    none-given g e = let z : _≡_ {A = ℕ} 0 1 = cc in omega arith
+
+-- database, pins and transactions change, the latest moment stays, and no more is held than before
+tx-change : (p : Rules) (o : Origin) (h : List Event) (db db′ : Db) (pins pins′ : List Pin) (next : ℕ) (tx : Transaction) → db′ .latest ≡ db .latest → ((m : ℕ) → held db′ m ≡ true → held db m ≡ true)
+    → ((m : ℕ) → among m (tx .holds) ≡ true → among m (moments pins′) ≡ true) → TxGood p o h db pins next tx → TxGood p o h db′ pins′ next tx
+tx-change p o h db db′ pins pins′ next tx same fewer keep good = record {
+    younger = good .younger; holds = good .holds; pinned = keep; some = good .some; whole = good .whole; unread = good .unread; inside = good .inside;
+    stack = λ i g is. claim-held o h db db′ (g .part) _ same fewer (good .stack i g is);
+    sheets = good .sheets; right = good .right }
+
+pub core-change : (p : Rules) (o : Origin) (h : List Event) (hall : Hall) (db′ : Db) (pins′ : List Pin) (txs′ : List Transaction) → Core p o h hall
+    → db′ .latest ≡ hall .db .latest → ((m : ℕ) → held db′ m ≡ true → held (hall .db) m ≡ true) → Sound db′
+    → ((m t k : ℕ) → held db′ m ≡ true → db′ .at m t k ≡ hall .db .at m t k)
+    → ((m : ℕ) → among m (db′ .pins) ≡ among m (moments pins′)) → distinct (moments pins′) ≡ true
+    → ((pin : Pin) → Among pin pins′ → pin .uses ≡ holders (pin .moment) txs′) → distinct (numbers txs′) ≡ true
+    → ((t : Transaction) → Among t (hall .books .txs) → (m : ℕ) → among m (t .holds) ≡ true → Among t txs′ → among m (moments pins′) ≡ true)
+    → ((t : Transaction) → Among t txs′ → TxGood p o h db′ pins′ (hall .books .next) t ⊎ Among t (hall .books .txs))
+    → Core p o h (record { db = db′; entries = hall .entries; books = withTransactions pins′ txs′ (hall .books) })
+core-change p o h hall db′ pins′ txs′ core same fewer sound states pins once uses apart keep in-it = record {
+    latest = same ∙ core .latest;
+    past = let x = core .past in omega arith;
+    stream = core .stream;
+    sound = sound;
+    faithful = λ m t k hd. states m t k hd ∙ core .faithful m t k (fewer m hd);
+    same = pins; once = once; uses = uses; apart = apart;
+    entries = λ x a. claim-held o h (hall .db) db′ _ _ same fewer (core .entries x a);
+    txs = λ t a. ⊎-elim (λ good. good) (λ old. tx-change p o h (hall .db) db′ (hall .books .pins) pins′ (hall .books .next) t same fewer (λ m b. keep t old m b a) (core .txs t old)) (in-it t a);
+    givens = core .givens }
+
+-- how many hold a pin
+abbrev pub bit : ℕ → Transaction → ℕ
+bit m tx = cond (among m (tx .holds)) 1 0
+
+pub holders-cons : (m : ℕ) (tx : Transaction) (txs : List Transaction) → holders m (tx ∷ txs) ≡ bit m tx + holders m txs
+holders-cons m tx txs = ⊎-elim (λ (e : among m (tx .holds) ≡ true). rw e (omega arith)) (λ (e : among m (tx .holds) ≡ false). rw e (omega arith)) (cases-bool (among m (tx .holds)))
+
+pub holders-replaced : (m : ℕ) (tx tx′ : Transaction) (txs : List Transaction) → find (tx′ .number) txs ≡ Some tx → holders m (replaced tx′ txs) + bit m tx ≡ holders m txs + bit m tx′
+holders-replaced m tx tx′ [] e = absurd (none-tx tx e)
+holders-replaced m tx tx′ (x ∷ txs) e =
+    ⊎-elim
+    (λ (is : eqb (tx′ .number) (x .number) ≡ true).
+        let same = some-tx x tx (sym (cond-true (eqb (tx′ .number) (x .number)) _ _ is) ∙ e) in
+        let a = ap (holders m) (cond-true (eqb (tx′ .number) (x .number)) (tx′ ∷ txs) (x ∷ replaced tx′ txs) is) in
+        let b = holders-cons m tx′ txs in let c = holders-cons m x txs in
+        let d = ap (bit m) same in
+        omega arith)
+    (λ (is : eqb (tx′ .number) (x .number) ≡ false).
+        let ih = holders-replaced m tx tx′ txs (sym (cond-false (eqb (tx′ .number) (x .number)) _ _ is) ∙ e) in
+        let a = ap (holders m) (cond-false (eqb (tx′ .number) (x .number)) (tx′ ∷ txs) (x ∷ replaced tx′ txs) is) in
+        let b = holders-cons m x (replaced tx′ txs) in let c = holders-cons m x txs in
+        omega arith)
+    (cases-bool (eqb (tx′ .number) (x .number)))
+
+pub holders-removed : (m n : ℕ) (tx : Transaction) (txs : List Transaction) → find n txs ≡ Some tx → holders m (removed n txs) + bit m tx ≡ holders m txs
+holders-removed m n tx [] e = absurd (none-tx tx e)
+holders-removed m n tx (x ∷ txs) e =
+    ⊎-elim
+    (λ (is : eqb n (x .number) ≡ true).
+        let same = some-tx x tx (sym (cond-true (eqb n (x .number)) _ _ is) ∙ e) in
+        let a = ap (holders m) (cond-true (eqb n (x .number)) txs (x ∷ removed n txs) is) in
+        let c = holders-cons m x txs in
+        let d = ap (bit m) same in
+        omega arith)
+    (λ (is : eqb n (x .number) ≡ false).
+        let ih = holders-removed m n tx txs (sym (cond-false (eqb n (x .number)) _ _ is) ∙ e) in
+        let a = ap (holders m) (cond-false (eqb n (x .number)) txs (x ∷ removed n txs) is) in
+        let b = holders-cons m x (removed n txs) in let c = holders-cons m x txs in
+        omega arith)
+    (cases-bool (eqb n (x .number)))
+
+-- one transaction changes, and holds what it held
+pub core-tx : (p : Rules) (o : Origin) (h : List Event) (hall : Hall) (tx tx′ : Transaction) → Core p o h hall → find (tx′ .number) (hall .books .txs) ≡ Some tx → tx′ .holds ≡ tx .holds
+    → TxGood p o h (hall .db) (hall .books .pins) (hall .books .next) tx′
+    → Core p o h (record { db = hall .db; entries = hall .entries; books = withTx tx′ (hall .books .pins) (hall .books) })
+core-tx p o h hall tx tx′ core is same good =
+    core-change p o h hall (hall .db) (hall .books .pins) (replaced tx′ (hall .books .txs)) core refl (λ m x. x) (core .sound) (λ m t k x. refl) (core .same) (core .once)
+    (λ pin a. let u = core .uses pin a in let r = holders-replaced (pin .moment) tx tx′ (hall .books .txs) is in let b : bit (pin .moment) tx′ ≡ bit (pin .moment) tx = ap (λ (xs : List ℕ). cond {A = ℕ} (among (pin .moment) xs) 1 0) same in omega arith)
+    (ap distinct (numbers-replaced tx′ (hall .books .txs)) ∙ core .apart)
+    (λ t a m b c. core .txs t a .pinned m b)
+    (λ t a. ⊎-elim (λ e. inl (subst (TxGood p o h (hall .db) (hall .books .pins) (hall .books .next)) (sym e) good)) inr (in-replaced tx′ (hall .books .txs) t a))
+

@@ -3,3 +3,5 @@ pub mod Moves
 pub mod Parts
 pub mod Towers
 pub mod Cores
+pub mod Steps
+pub mod Lives

@@ -97,7 +97,7 @@ none-some g e = let z : _≡_ {A = ℕ} 0 1 = cc in omega arith
 some-one : (one other : Frame) → Some one ≡ Some other → one ≡ other
 some-one one other e = cc
 
-nth-cut : (part : Part) (i : ℕ) (fs : List Frame) (g : Frame) → nth i (map (cut part) fs) ≡ Some g → (was : Frame) × (nth i fs ≡ Some was) × (g ≡ cut part was)
+pub nth-cut : (part : Part) (i : ℕ) (fs : List Frame) (g : Frame) → nth i (map (cut part) fs) ≡ Some g → (was : Frame) × (nth i fs ≡ Some was) × (g ≡ cut part was)
 nth-cut part i [] g e = absurd (none-some g e)
 nth-cut part zero (f ∷ fs) g e = (f, refl, some-one g (cut part f) (sym e))
 nth-cut part (suc i) (f ∷ fs) g e = nth-cut part i fs g e

@@ -1,0 +1,6 @@
+-- The law stands.
+use Rattle.model.specs.Law.{Law, Law-stands}
+use Rattle.model.proofs.Steps.{core-given}
+
+pub law-stands : Law-stands
+law-stands rules o trace hall lives = ?
