@@ -4,4 +4,5 @@ pub mod Parts
 pub mod Towers
 pub mod Cores
 pub mod Steps
+pub mod Choosing
 pub mod Lives
