@@ -144,3 +144,109 @@ latest-good p o h db db′ pins pins′ next L tx top pr same fewer keep in-pins
         stack = λ i g is. claim-held o h db db′ (g .part) _ same fewer (good .stack i g is);
         sheets = good .sheets;
         right = λ given g is m a. absurd (good .unread pr given g is) }
+
+pub holders-some : (m : ℕ) (t : Transaction) (txs : List Transaction) → Among t txs → among m (t .holds) ≡ true → 0 < holders m txs
+holders-some m t [] a b = absurd a
+holders-some m t (x ∷ txs) a b =
+    let c = holders-cons m x txs in
+    ⊎-elim (λ e. let w : bit m x ≡ 1 = cond-true (among m (x .holds)) 1 0 (ap (λ (y : Transaction). among m (y .holds)) (sym e) ∙ b) in omega arith) (λ d. let ih = holders-some m t txs d b in omega arith) a
+
+-- the unused pin of lowest moment is an unused pin
+some-nat : (a b : ℕ) → Some a ≡ Some b → a ≡ b
+some-nat a b e = cc
+
+abbrev IsUnused : ℕ → List Pin → Type 0
+IsUnused u pins = (pin : Pin) × Among pin pins × (pin .moment ≡ u) × (isUnused pin ≡ true)
+
+lower-one : (pin : Pin) (pins : List Pin) (rest : Option ℕ) (u : ℕ) → isUnused pin ≡ true → ((v : ℕ) → rest ≡ Some v → IsUnused v pins) → lower (pin .moment) rest ≡ u → IsUnused u (pin ∷ pins)
+lower-one pin pins None u free more is = (pin, inl refl, is, free)
+lower-one pin pins (Some v) u free more is =
+    ⊎-elim
+    (λ less. (pin, inl refl, (let x : min (pin .moment) v ≡ pin .moment = omega arith in sym x ∙ is), free))
+    (λ le. let x : min (pin .moment) v ≡ v = omega arith in let w = more v refl in (w .0, inr (w .1), w .2 ∙ (sym x ∙ is), w .3))
+    (cases-lt (pin .moment) v)
+
+lowest-unused : (pins : List Pin) (u : ℕ) → lowestUnused pins ≡ Some u → IsUnused u pins
+lowest-unused [] u e = let z : _≡_ {A = ℕ} 0 1 = cc in absurd (omega arith)
+lowest-unused (pin ∷ pins) u e =
+    ⊎-elim
+    (λ (free : isUnused pin ≡ true). lower-one pin pins (lowestUnused pins) u free (lowest-unused pins) (some-nat _ u (sym (cond-true (isUnused pin) _ _ free) ∙ e)))
+    (λ (busy : isUnused pin ≡ false). let w = lowest-unused pins u (sym (cond-false (isUnused pin) _ _ busy) ∙ e) in (w .0, inr (w .1), w .2, w .3))
+    (cases-bool (isUnused pin))
+
+moments-without : (u : ℕ) (pins : List Pin) → moments (withoutPin u pins) ≡ without u (moments pins)
+moments-without u [] = refl
+moments-without u (pin ∷ pins) =
+    ⊎-elim
+    (λ (e : eqb (pin .moment) u ≡ true). rw e (moments-without u pins))
+    (λ (e : eqb (pin .moment) u ≡ false). rw e (ap (λ ms. pin .moment ∷ ms) (moments-without u pins)))
+    (cases-bool (eqb (pin .moment) u))
+
+-- what choosing leaves
+pub record Picked (p : Rules) (o : Origin) (h : List Event) (hall : Hall) (tx : Transaction) (m : ℕ) (db′ : Db) (pins′ : List Pin) (tx′ : Transaction) : Type 0 where
+  pub core : Core p o h (record { db = db′; entries = hall .entries; books = withTx tx′ pins′ (hall .books) })
+  pub chosen : among m (tx′ .set) ≡ true
+  pub frames : tx′ .frames ≡ tx .frames
+  pub number : tx′ .number ≡ tx .number
+
+same-picked : (p : Rules) (o : Origin) (h : List Event) (hall : Hall) (tx : Transaction) (m : ℕ) → Core p o h hall → find (tx .number) (hall .books .txs) ≡ Some tx → newestOf (tx .set) ≡ Some m → Picked p o h hall tx m (hall .db) (hall .books .pins) tx
+same-picked p o h hall tx m core is new = record {
+    core = core-tx p o h hall tx tx core is refl (core .txs tx (found (tx .number) (hall .books .txs) tx is .0));
+    chosen = newest-among (tx .set) m new; frames = refl; number = refl }
+
+-- the latest moment is pinned over a base of pins that keeps all that is held
+latest-picked : (p : Rules) (o : Origin) (h : List Event) (hall : Hall) (tx : Transaction) (now : ℕ) (db₁ db′ : Db) (base : List Pin) → Core p o h hall → find (tx .number) (hall .books .txs) ≡ Some tx → tx .present ≡ true → Sound db′
+    → db₁ .latest ≡ hall .db .latest → ((n : ℕ) → among n (db₁ .pins) ≡ among n (moments base)) → ((n : ℕ) → among n (db₁ .pins) ≡ true → among n (hall .db .pins) ≡ true)
+    → ((n t k : ℕ) → held db₁ n ≡ true → db₁ .at n t k ≡ hall .db .at n t k) → distinct (moments base) ≡ true
+    → ((pin : Pin) → Among pin base → Among pin (hall .books .pins))
+    → ((t : Transaction) → Among t (hall .books .txs) → (m : ℕ) → among m (t .holds) ≡ true → among m (moments base) ≡ true)
+    → Pinned db₁ (hall .db .latest) db′
+    → Picked p o h hall tx (hall .db .latest) db′ (pinsWith (hall .db .latest) now (among (hall .db .latest) (tx .holds)) base) (withLatest (hall .db .latest) tx)
+latest-picked p o h hall tx now db₁ db′ base core is pr sound same base-pins fewer-pins states once part keep pin =
+    let L = hall .db .latest in
+    let own = found (tx .number) (hall .books .txs) tx is in
+    let latest : db′ .latest ≡ L = pin .latest ∙ same in
+    let to₁ : (n : ℕ) → held db′ n ≡ true → held db₁ n ≡ true =
+        λ n hd. ⊎-elim (λ e. or-left _ _ (eq-eqb n (db₁ .latest) (eqb-true n (db′ .latest) e ∙ pin .latest)))
+            (λ a. ⊎-elim (λ e. or-left _ _ (eq-eqb n (db₁ .latest) (eqb-true n L e ∙ sym same))) (or-right _ _) (or-cases _ _ (sym (pin .pins n) ∙ a))) (or-cases _ _ hd) in
+    let fewer : (n : ℕ) → held db′ n ≡ true → held (hall .db) n ≡ true =
+        λ n hd. ⊎-elim (λ e. or-left _ _ (eq-eqb n L (eqb-true n (db₁ .latest) e ∙ same))) (λ a. or-right _ _ (fewer-pins n a)) (or-cases _ _ (to₁ n hd)) in
+    let pins′ = pinsWith L now (among L (tx .holds)) base in
+    let with : (n : ℕ) → among n (moments pins′) ≡ (eqb n L || among n (moments base)) = λ n. ap (among n) (moments-with L now (among L (tx .holds)) base) ∙ among-added n L (moments base) in
+    let more : (n : ℕ) → among n (moments base) ≡ true → among n (moments pins′) ≡ true = λ n a. with n ∙ or-right _ _ a in
+    record {
+        core = core-change p o h hall db′ pins′ (replaced (withLatest L tx) (hall .books .txs)) core latest fewer sound
+            (λ n t k hd. pin .states n t k (to₁ n hd) ∙ states n t k (to₁ n hd))
+            (λ n. pin .pins n ∙ ap (λ b. eqb n L || b) (base-pins n) ∙ sym (with n))
+            (ap distinct (moments-with L now (among L (tx .holds)) base) ∙ distinct-added L (moments base) once)
+            (with-uses L now base (hall .books .txs) tx is (own .0) (λ x a. core .uses x (part x a)) keep)
+            (ap distinct (numbers-replaced (withLatest L tx) (hall .books .txs)) ∙ core .apart)
+            (λ t a m b c. more m (keep t a m b))
+            (λ t a. ⊎-elim
+                (λ e. inl (subst (TxGood p o h db′ pins′ (hall .books .next)) (sym e)
+                    (latest-good p o h (hall .db) db′ (hall .books .pins) pins′ (hall .books .next) L tx (core .sound .moments) pr latest fewer (λ m b. more m (keep tx (own .0) m b)) (with L ∙ or-left _ _ (eq-eqb L L refl)) (core .txs tx (own .0)))))
+                inr (in-replaced (withLatest L tx) (hall .books .txs) t a));
+        chosen = among-added L L (tx .set) ∙ or-left _ _ (eq-eqb L L refl);
+        frames = refl; number = refl }
+
+pub core-pick : (p : Rules) (o : Origin) (h : List Event) (hall : Hall) (tx tx′ : Transaction) (now m : ℕ) (db′ : Db) (pins′ : List Pin) → Core p o h hall → find (tx .number) (hall .books .txs) ≡ Some tx → Sound db′
+    → Picks (hall .db) (hall .books .pins) tx now m db′ pins′ tx′ → Picked p o h hall tx m db′ pins′ tx′
+core-pick p o h hall tx tx′ now m db′ pins′ core is sound (taken n wants new) = same-picked p o h hall tx n core is new
+core-pick p o h hall tx tx′ now m db′ pins′ core is sound (kept n wants room none new) = same-picked p o h hall tx n core is new
+core-pick p o h hall tx tx′ now m db′ pins′ core is sound (pinned db″ wants room pin) =
+    latest-picked p o h hall tx now (hall .db) db″ (hall .books .pins) core is (and-parts _ _ wants .0) sound refl (core .same) (λ n a. a) (λ n t k hd. refl) (core .once) (λ x a. a) (λ t a n b. core .txs t a .pinned n b) pin
+core-pick p o h hall tx tx′ now m db′ pins′ core is sound (gaveUp u db₁ db″ wants room low un pin) =
+    let w = lowest-unused (hall .books .pins) u low in
+    let zero-uses : holders u (hall .books .txs) ≡ 0 = ap (λ n. holders n (hall .books .txs)) (sym (w .2)) ∙ sym (core .uses (w .0) (w .1)) ∙ eqb-true (w .0 .uses) 0 (w .3) in
+    let base = withoutPin u (hall .books .pins) in
+    let ms = moments-without u (hall .books .pins) in
+    let in-base : (n : ℕ) → among n (moments base) ≡ (among n (moments (hall .books .pins)) && not (eqb n u)) = λ n. ap (among n) ms ∙ among-without n u (moments (hall .books .pins)) in
+    latest-picked p o h hall tx now db₁ db″ base core is (and-parts _ _ wants .0) sound (un .latest)
+    (λ n. un .pins n ∙ ap (λ b. b && not (eqb n u)) (core .same n) ∙ sym (in-base n))
+    (λ n a. and-parts _ _ (sym (un .pins n) ∙ a) .0)
+    (λ n t k hd. un .states n t k hd)
+    (ap distinct ms ∙ distinct-without u (moments (hall .books .pins)) (core .once))
+    (λ x a. kept-among (λ pin. not (eqb (pin .moment) u)) x (hall .books .pins) a .0)
+    (λ t a n b. in-base n ∙ and-from _ _ (core .txs t a .pinned n b)
+        (not-from-false _ (ne-eqb n u (λ e. let some = holders-some n t (hall .books .txs) a b in let z = ap (λ k. holders k (hall .books .txs)) e in omega arith))))
+    pin
