@@ -124,7 +124,7 @@ with-uses L now pins txs tx is own uses holds pin a =
     (cases-bool (among L (moments pins)))
 
 -- the transaction, once the latest moment has taken the present's place
-whole-contains : (L : ℕ) → L ≤ highest → contains (wholePart .interval) L ≡ true
+pub whole-contains : (L : ℕ) → L ≤ highest → contains (wholePart .interval) L ≡ true
 whole-contains L top = and-from _ _ (le-leb 0 L (omega arith)) (le-leb L limitless (omega arith))
 
 latest-good : (p : Rules) (o : Origin) (h : List Event) (db db′ : Db) (pins pins′ : List Pin) (next L : ℕ) (tx : Transaction) → L ≤ highest → tx .present ≡ true
@@ -139,11 +139,11 @@ latest-good p o h db db′ pins pins′ next L tx top pr same fewer keep in-pins
         pinned = λ m a. ⊎-elim (λ e. ap (λ k. among k (moments pins′)) e ∙ in-pins) (keep m) (split m (tx .holds) a);
         some = λ x. (L, among-added L L (tx .set) ∙ or-left _ _ (eq-eqb L L refl));
         whole = λ x. absurd (both-ways false refl x);
-        unread = λ x. absurd (both-ways false refl x);
+        free = λ x. absurd (both-ways false refl x);
         inside = λ m a i g is. ⊎-elim (λ e. subst (λ (part : Part). contains (part .interval) m ≡ true) (sym (good .whole pr i g is)) (ap (contains (wholePart .interval)) e ∙ whole-contains L top)) (λ b. good .inside m b i g is) (split m (tx .set) a);
         stack = λ i g is. claim-held o h db db′ (g .part) _ same fewer (good .stack i g is);
         sheets = good .sheets;
-        right = λ given g is m a. absurd (good .unread pr given g is) }
+        right = λ given g is m a. good .free pr given g is (recordsAt o h m) }
 
 pub holders-some : (m : ℕ) (t : Transaction) (txs : List Transaction) → Among t txs → among m (t .holds) ≡ true → 0 < holders m txs
 holders-some m t [] a b = absurd a

@@ -43,7 +43,7 @@ pub record TxGood (p : Rules) (o : Origin) (h : List Event) (db : Db) (pins : Li
   pub pinned : (m : ℕ) → among m (tx .holds) ≡ true → among m (moments pins) ≡ true
   pub some : tx .present ≡ false → (m : ℕ) × (among m (tx .set) ≡ true)
   pub whole : tx .present ≡ true → (i : ℕ) (g : Frame) → nth i (tx .frames) ≡ Some g → g .part ≡ wholePart
-  pub unread : tx .present ≡ true → (given : Given) → GivenIn given h → given .number ≡ tx .number → ⊥
+  pub free : tx .present ≡ true → (given : Given) → GivenIn given h → given .number ≡ tx .number → (z : Records) → Right p z (given .question) (given .reading)
   pub inside : (m : ℕ) → among m (tx .set) ≡ true → (i : ℕ) (g : Frame) → nth i (tx .frames) ≡ Some g → contains (g .part .interval) m ≡ true
   pub stack : Stack p o h db (tx .frames)
   pub sheets : (i : ℕ) (g : Frame) → nth i (tx .frames) ≡ Some g → (g .point .sheet < p .sheets) × (g .answers < 32)
@@ -132,12 +132,12 @@ right-skip p o h e m q r w x = subst (λ s. Right p s q r) (sym (records-skip o 
 -- what an event gives is right for the transaction
 abbrev pub GivesRight : Rules → Origin → List Event → Event → ℕ → List Transaction → Type 0
 GivesRight p o h e next txs = (given : Given) → e .given ≡ Some given → (given .number < next)
-    × ((tx : Transaction) → Among tx txs → given .number ≡ tx .number → (tx .present ≡ false) × ((m : ℕ) → among m (tx .set) ≡ true → Right p (recordsAt o h m) (given .question) (given .reading)))
+    × ((tx : Transaction) → Among tx txs → given .number ≡ tx .number → (tx .present ≡ true → (z : Records) → Right p z (given .question) (given .reading)) × ((m : ℕ) → among m (tx .set) ≡ true → Right p (recordsAt o h m) (given .question) (given .reading)))
 
 tx-append : (p : Rules) (o : Origin) (h : List Event) (e : Event) (db : Db) (pins : List Pin) (next : ℕ) (txs : List Transaction) (tx : Transaction) → isWrite (e .reply) ≡ false → GivesRight p o h e next txs → Among tx txs → TxGood p o h db pins next tx → TxGood p o (e ∷ h) db pins next tx
 tx-append p o h e db pins next txs tx w gives in-it good = record {
     younger = good .younger; holds = good .holds; pinned = good .pinned; some = good .some; whole = good .whole;
-    unread = λ pr given g is. ⊎-elim (λ now. both-ways (tx .present) (gives given now .1 tx in-it is .0) pr) (λ old. good .unread pr given old is) g;
+    free = λ pr given g is. ⊎-elim (λ now. gives given now .1 tx in-it is .0 pr) (λ old. good .free pr given old is) g;
     inside = good .inside;
     stack = stack-skip p o h e db (tx .frames) w (good .stack);
     sheets = good .sheets;
@@ -165,7 +165,7 @@ gives-nothing p o h e next txs none given is = absurd (none-given given (sym non
 tx-change : (p : Rules) (o : Origin) (h : List Event) (db db′ : Db) (pins pins′ : List Pin) (next : ℕ) (tx : Transaction) → db′ .latest ≡ db .latest → ((m : ℕ) → held db′ m ≡ true → held db m ≡ true)
     → ((m : ℕ) → among m (tx .holds) ≡ true → among m (moments pins′) ≡ true) → TxGood p o h db pins next tx → TxGood p o h db′ pins′ next tx
 tx-change p o h db db′ pins pins′ next tx same fewer keep good = record {
-    younger = good .younger; holds = good .holds; pinned = keep; some = good .some; whole = good .whole; unread = good .unread; inside = good .inside;
+    younger = good .younger; holds = good .holds; pinned = keep; some = good .some; whole = good .whole; free = good .free; inside = good .inside;
     stack = λ i g is. claim-held o h db db′ (g .part) _ same fewer (good .stack i g is);
     sheets = good .sheets; right = good .right }
 

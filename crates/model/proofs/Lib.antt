@@ -5,4 +5,5 @@ pub mod Towers
 pub mod Cores
 pub mod Steps
 pub mod Choosing
+pub mod Asked
 pub mod Lives

@@ -1,7 +1,7 @@
 -- The law stands.
 use Rattle.model.specs.Law.{Law, Law-stands}
 use Rattle.model.proofs.Steps.{core-given}
-use Rattle.model.proofs.Choosing.{core-pick}
+use Rattle.model.proofs.Asked.{among-of}
 
 pub law-stands : Law-stands
 law-stands rules o trace hall lives = ?

@@ -53,7 +53,7 @@ narrow-good p o h db pins next tx part gs m₀ good in-set in-part stack inside 
         pinned = good .pinned;
         some = λ pr. (m₀, among-kept (contains (part .interval)) m₀ (tx .set) ∙ and-from _ _ in-set in-part);
         whole = λ pr. absurd (both-ways false refl pr);
-        unread = λ pr. absurd (both-ways false refl pr);
+        free = λ pr. absurd (both-ways false refl pr);
         inside = λ m a i g is.
             let was = nth-cut part i gs g is in
             subst (λ (x : Frame). contains (x .part .interval) m ≡ true) (sym (was .2)) (meet-contains (was .0 .part) part m (inside m (both m a .0) i (was .0) (was .1)) (both m a .1));
@@ -114,9 +114,34 @@ core-given p o h e hall tx part gs Q m₀ given core is claim in-set in-part sta
          λ t a same-number.
             let t-is : t ≡ tx′ = only-one (tx .number) (replaced tx′ (hall .books .txs)) tx′ t (ap distinct (numbers-replaced tx′ (hall .books .txs)) ∙ core .apart) (find-replaced tx′ (hall .books .txs) tx is) a
                 (sym same-number ∙ ap (λ (x : Given). x .number) (sym same) ∙ number) in
-            subst (λ (x : Transaction). (x .present ≡ false) × ((m : ℕ) → among m (x .set) ≡ true → Right p (recordsAt o h m) (other .question) (other .reading))) (sym t-is)
-            (refl, λ m b.
+            subst (λ (x : Transaction). (x .present ≡ true → (z : Records) → Right p z (other .question) (other .reading)) × ((m : ℕ) → among m (x .set) ≡ true → Right p (recordsAt o h m) (other .question) (other .reading))) (sym t-is)
+            (λ pr. absurd (both-ways false refl pr), λ m b.
                 let parts = and-parts _ _ (sym (among-kept (contains (part .interval)) m (tx .set)) ∙ b) in
                 subst (λ (x : Given). Right p (recordsAt o h m) (x .question) (x .reading)) same
                 (right (recordsAt o h m) (claim-here o h (hall .db) part Q m (set-held p o h hall tx m core good (parts .0)) (parts .1) claim)))))
     core′
+
+-- frames change and a reading is given, and the transaction is not narrowed
+pub core-frames : (p : Rules) (o : Origin) (h : List Event) (e : Event) (hall : Hall) (tx : Transaction) (gs : List Frame)
+    → Core p o h hall → find (tx .number) (hall .books .txs) ≡ Some tx
+    → Stack p o h (hall .db) gs
+    → (tx .present ≡ true → (i : ℕ) (g : Frame) → nth i gs ≡ Some g → g .part ≡ wholePart)
+    → ((m : ℕ) → among m (tx .set) ≡ true → (i : ℕ) (g : Frame) → nth i gs ≡ Some g → contains (g .part .interval) m ≡ true)
+    → ((i : ℕ) (g : Frame) → nth i gs ≡ Some g → (g .point .sheet < p .sheets) × (g .answers < 32))
+    → isWrite (e .reply) ≡ false
+    → ((given : Given) → e .given ≡ Some given → (given .number ≡ tx .number) × (tx .present ≡ true → (z : Records) → Right p z (given .question) (given .reading)) × ((m : ℕ) → among m (tx .set) ≡ true → Right p (recordsAt o h m) (given .question) (given .reading)))
+    → Core p o (e ∷ h) (record { db = hall .db; entries = hall .entries; books = withTx (withFrames gs tx) (hall .books .pins) (hall .books) })
+core-frames p o h e hall tx gs core is stack whole inside sheets w gives =
+    let own = found (tx .number) (hall .books .txs) tx is in
+    let good = core .txs tx (own .0) in
+    let tx′ = withFrames gs tx in
+    let good′ : TxGood p o h (hall .db) (hall .books .pins) (hall .books .next) tx′ =
+        record { younger = good .younger; holds = good .holds; pinned = good .pinned; some = good .some; whole = whole; free = good .free; inside = inside; stack = stack; sheets = sheets; right = good .right } in
+    core-append p o h e (record { db = hall .db; entries = hall .entries; books = withTx tx′ (hall .books .pins) (hall .books) }) w
+    (λ given now.
+        let g = gives given now in
+        (subst (λ n. n < hall .books .next) (sym (g .0)) (good .younger),
+         λ t a same-number.
+            let t-is : t ≡ tx′ = only-one (tx .number) (replaced tx′ (hall .books .txs)) tx′ t (ap distinct (numbers-replaced tx′ (hall .books .txs)) ∙ core .apart) (find-replaced tx′ (hall .books .txs) tx is) a (sym same-number ∙ g .0) in
+            subst (λ (x : Transaction). (x .present ≡ true → (z : Records) → Right p z (given .question) (given .reading)) × ((m : ℕ) → among m (x .set) ≡ true → Right p (recordsAt o h m) (given .question) (given .reading))) (sym t-is) (g .1, g .2)))
+    (core-tx p o h hall tx tx′ core is refl good′)
