@@ -48,10 +48,10 @@ use Rattle.model.proofs.Cores.{TxGood, Core, core-entries, core-append, found,
 use Rattle.model.proofs.Steps.{set-held, core-given, core-frames, find-replaced, replaced-again}
 use Rattle.model.proofs.Choosing.{core-pick, whole-contains}
 
-some-frame : (one other : Frame) → Some one ≡ Some other → one ≡ other
+pub some-frame : (one other : Frame) → Some one ≡ Some other → one ≡ other
 some-frame one other e = cc
 
-none-frame : (g : Frame) → None ≡ Some g → ⊥
+pub none-frame : (g : Frame) → None ≡ Some g → ⊥
 none-frame g e = let z : _≡_ {A = ℕ} 0 1 = cc in omega arith
 
 no-frames : (fs : List Frame) → ltb 0 (length fs) ≡ false → fs ≡ []
@@ -65,32 +65,32 @@ pub among-of : (m : ℕ) (ms : List ℕ) → Among m ms → among m ms ≡ true
 among-of m [] a = absurd a
 among-of m (n ∷ ms) a = ⊎-elim (λ e. or-left _ _ (eq-eqb m n e)) (λ b. or-right _ _ (among-of m ms b)) a
 
-no-given : {X : Type 0} (g : Given) → None ≡ Some g → X
+pub no-given : {X : Type 0} (g : Given) → None ≡ Some g → X
 no-given g e = let z : _≡_ {A = ℕ} 0 1 = cc in absurd (omega arith)
 
-one-given : (one other : Given) → Some one ≡ Some other → one ≡ other
+pub one-given : (one other : Given) → Some one ≡ Some other → one ≡ other
 one-given one other e = cc
 
 -- the transaction with the number that was asked for
-found-at : (n : ℕ) (txs : List Transaction) (tx : Transaction) → find n txs ≡ Some tx → find (tx .number) txs ≡ Some tx
+pub found-at : (n : ℕ) (txs : List Transaction) (tx : Transaction) → find n txs ≡ Some tx → find (tx .number) txs ≡ Some tx
 found-at n txs tx is = ap (λ k. find k txs) (found n txs tx is .1) ∙ is
 
 -- a cache whose set of entries is the same
-same-entries : (p : Rules) (o : Origin) (h : List Event) (hall : Hall) (entries : List Entry) → Same (hall .entries) entries → Core p o h hall → Core p o h (record { db = hall .db; entries = entries; books = hall .books })
+pub same-entries : (p : Rules) (o : Origin) (h : List Event) (hall : Hall) (entries : List Entry) → Same (hall .entries) entries → Core p o h hall → Core p o h (record { db = hall .db; entries = entries; books = hall .books })
 same-entries p o h hall entries same core = core-entries p o h hall entries core (λ e a. core .entries e (same .back e a))
 
 -- what a hit claims, for the key that was looked up
-key-gives : (p : Rules) (z : Records) (sheet argument : ℕ) (e : Entry) (r : Reading) → isKey (keyOf sheet argument) (e .key) ≡ true → Gives p z (e .key .sheet) (e .key .argument) r → Gives p z sheet argument r
+pub key-gives : (p : Rules) (z : Records) (sheet argument : ℕ) (e : Entry) (r : Reading) → isKey (keyOf sheet argument) (e .key) ≡ true → Gives p z (e .key .sheet) (e .key .argument) r → Gives p z sheet argument r
 key-gives p z sheet argument e r k x =
     let parts = and-parts _ _ k in
     subst (λ a. Gives p z sheet a r) (sym (eqb-true argument (e .key .argument) (parts .1))) (subst (λ s. Gives p z s (e .key .argument) r) (sym (eqb-true sheet (e .key .sheet) (parts .0))) x)
 
 -- frames may be dropped
-dropped-core : (p : Rules) (o : Origin) (h : List Event) (e : Event) (hall : Hall) (tx : Transaction) → Core p o h hall → find (tx .number) (hall .books .txs) ≡ Some tx → isWrite (e .reply) ≡ false → e .given ≡ None → Core p o (e ∷ h) (dropped tx hall)
+pub dropped-core : (p : Rules) (o : Origin) (h : List Event) (e : Event) (hall : Hall) (tx : Transaction) → Core p o h hall → find (tx .number) (hall .books .txs) ≡ Some tx → isWrite (e .reply) ≡ false → e .given ≡ None → Core p o (e ∷ h) (dropped tx hall)
 dropped-core p o h e hall tx core is w none =
     core-frames p o h e hall tx [] core is (λ i g x. absurd (none-frame g x)) (λ pr i g x. absurd (none-frame g x)) (λ m a i g x. absurd (none-frame g x)) (λ i g x. absurd (none-frame g x)) w (λ given now. no-given given (sym none ∙ now))
 
-hit-core : (p : Rules) (o : Origin) (h : List Event) (number sheet argument : ℕ) (hall : Hall) (tx : Transaction) (entry : Entry) (entries : List Entry) → Core p o h hall → find number (hall .books .txs) ≡ Some tx → hasFrames tx ≡ false
+pub hit-core : (p : Rules) (o : Origin) (h : List Event) (number sheet argument : ℕ) (hall : Hall) (tx : Transaction) (entry : Entry) (entries : List Entry) → Core p o h hall → find number (hall .books .txs) ≡ Some tx → hasFrames tx ≡ false
     → Looks (hall .entries) (keyOf sheet argument) (tx .set) (hall .books .delivered) (Some entry) → Same (hall .entries) entries
     → Core p o (record { call = Sheet number sheet argument; changes = []; reply = Read (entry .reading); given = Some (record { number = number; question = ofSheet sheet argument; reading = entry .reading }) } ∷ h)
       (record { db = hall .db; entries = entries; books = withTx (narrowed (hitPart (hall .books .delivered) entry) tx) (hall .books .pins) (hall .books) })
@@ -109,7 +109,7 @@ hit-core p o h number sheet argument hall tx entry entries core is shut looks sa
     (λ i g x. absurd (let was = nth-cut (hitPart T entry) i (tx .frames) g x in nth-none i (tx .frames) (was .0) (no-frames (tx .frames) shut) (was .1)))
     (good .inside) (good .sheets) refl refl (sym (own .1)) (λ z x. key-gives p z sheet argument entry (entry .reading) (parts .0) x)
 
-whole-inside : (p : Rules) (o : Origin) (h : List Event) (hall : Hall) (tx : Transaction) (m : ℕ) → Core p o h hall → TxGood p o h (hall .db) (hall .books .pins) (hall .books .next) tx → among m (tx .set) ≡ true → contains (wholePart .interval) m ≡ true
+pub whole-inside : (p : Rules) (o : Origin) (h : List Event) (hall : Hall) (tx : Transaction) (m : ℕ) → Core p o h hall → TxGood p o h (hall .db) (hall .books .pins) (hall .books .next) tx → among m (tx .set) ≡ true → contains (wholePart .interval) m ≡ true
 whole-inside p o h hall tx m core good a =
     whole-contains m (let l = held-past (hall .db) m (core .sound) (set-held p o h hall tx m core good a) in let t = core .sound .moments in omega arith)
 
@@ -117,7 +117,7 @@ only-fresh : (sheet argument i : ℕ) (g : Frame) → nth i (freshFrame sheet ar
 only-fresh sheet argument zero g x = some-frame g (freshFrame sheet argument) (sym x)
 only-fresh sheet argument (suc i) g x = absurd (none-frame g x)
 
-miss-core : (p : Rules) (o : Origin) (h : List Event) (number sheet argument : ℕ) (hall : Hall) (tx : Transaction) (entries : List Entry) → Core p o h hall → find number (hall .books .txs) ≡ Some tx → sheet < p .sheets → Same (hall .entries) entries
+pub miss-core : (p : Rules) (o : Origin) (h : List Event) (number sheet argument : ℕ) (hall : Hall) (tx : Transaction) (entries : List Entry) → Core p o h hall → find number (hall .books .txs) ≡ Some tx → sheet < p .sheets → Same (hall .entries) entries
     → Core p o (record { call = Sheet number sheet argument; changes = []; reply = Open; given = None } ∷ h)
       (record { db = hall .db; entries = entries; books = withTx (withFrames (freshFrame sheet argument ∷ []) tx) (hall .books .pins) (hall .books) })
 miss-core p o h number sheet argument hall tx entries core is there same =
@@ -131,7 +131,7 @@ miss-core p o h number sheet argument hall tx entries core is there same =
     (λ i g x. subst (λ (y : Frame). (y .point .sheet < p .sheets) × (y .answers < 32)) (sym (only i g x)) (there, lit< tt))
     refl (λ given now. no-given given now)
 
-queried-core : (p : Rules) (o : Origin) (h : List Event) (number now m : ℕ) (query : Query) (hall : Hall) (tx tx′ : Transaction) (db : Db) (pins : List Pin) (answer : Answer) → Core p o h hall → Sound db → find number (hall .books .txs) ≡ Some tx → hasFrames tx ≡ false
+pub queried-core : (p : Rules) (o : Origin) (h : List Event) (number now m : ℕ) (query : Query) (hall : Hall) (tx tx′ : Transaction) (db : Db) (pins : List Pin) (answer : Answer) → Core p o h hall → Sound db → find number (hall .books .txs) ≡ Some tx → hasFrames tx ≡ false
     → Picks (hall .db) (hall .books .pins) tx now m db pins tx′ → Asks db m query (Ok answer)
     → Core p o (record { call = Directly number query now; changes = []; reply = Read (answer .reading); given = Some (record { number = number; question = ofQuery query; reading = answer .reading }) } ∷ h)
       (record { db = db; entries = hall .entries; books = withTx (narrowed (answerPart answer) tx′) pins (hall .books) })

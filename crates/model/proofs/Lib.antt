@@ -6,4 +6,5 @@ pub mod Cores
 pub mod Steps
 pub mod Choosing
 pub mod Asked
+pub mod Stepped
 pub mod Lives

@@ -1,7 +1,7 @@
 -- The law stands.
 use Rattle.model.specs.Law.{Law, Law-stands}
 use Rattle.model.proofs.Steps.{core-given}
-use Rattle.model.proofs.Asked.{among-of}
+use Rattle.model.proofs.Stepped.{step-last-core}
 
 pub law-stands : Law-stands
 law-stands rules o trace hall lives = ?
