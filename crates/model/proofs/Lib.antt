@@ -7,4 +7,5 @@ pub mod Steps
 pub mod Choosing
 pub mod Asked
 pub mod Stepped
+pub mod Turns
 pub mod Lives
