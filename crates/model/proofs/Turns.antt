@@ -8,7 +8,7 @@ use native.Mathlib.Omega.{arith}
 use lib.Dec.{eqb, leb, ltb}
 use lib.ListN.{length}
 use Rattle.std.proofs.shelf.Ways.{tells}
-use Rattle.std.proofs.shelf.Tests.{cases-bool, both-ways, cond-true, cond-false, leb-true, leb-false, le-leb, lt-leb, ltb-true, lt-ltb, le-ltb, and-from, and-parts, or-cases, or-right, or-left, or-from, or-parts, eqb-true, eqb-false, eq-eqb, ne-eqb, cases-lt, not-true, not-false, not-from-true, not-from-false}
+use Rattle.std.proofs.shelf.Tests.{cases-bool, both-ways, cond-true, cond-false, leb-true, leb-false, le-leb, lt-leb, ltb-true, ltb-false, lt-ltb, le-ltb, and-from, and-parts, or-cases, or-right, or-left, or-from, or-parts, eqb-true, eqb-false, eq-eqb, ne-eqb, cases-lt, not-true, not-false, not-from-true, not-from-false}
 use Rattle.std.proofs.shelf.Lists.{map-append}
 use Rattle.std.specs.declared.option.Option.{Option}
 use Rattle.std.specs.declared.option.Option.the-variants.{Some, None}
@@ -36,7 +36,7 @@ use Rattle.database.specs.Databases.{Db, held, Sound, Unpins, UnpinsAll, Writte
 use Rattle.database.proofs.Sets.{among-kept, among-added, among-without, among-none, distinct-without}
 use Rattle.cache.specs.declared.entry.Entry.{Entry}
 use Rattle.cache.specs.Calls.{Closes, Drops}
-use Rattle.cache.specs.Entries.{closed}
+use Rattle.cache.specs.Entries.{closed, closes}
 use Rattle.cache.proofs.Members.{among-map, among-mapped, kept-among}
 use Rattle.cache.proofs.Members as members
 use Rattle.model.specs.declared.call.Call.the-variants.{Begin, Commit, Abort, Write, Deliver, Sweep}
@@ -247,3 +247,147 @@ write-core p o h e moment hall db core sound w none wrote =
             right = λ given g is m b. ⊎-elim (λ now. no-given given (sym none ∙ now))
                 (λ old. subst (λ s. Right p s (given .question) (given .reading)) (sym (records-before o h e m (let x = held-past (hall .db) m (core .sound) (set-held p o h hall t m core good b) in let y = core .latest in omega arith))) (good .right given old is m b)) g };
         givens = λ given g. ⊎-elim (λ now. no-given given (sym none ∙ now)) (λ old. core .givens given old) g }
+
+-- a delivery
+rows-past : (o : Origin) (h : List Event) (row : Row) → Among row (rowsOf o h) → row .moment ≤ latestOf o h
+rows-past o [] row a = absurd a
+rows-past o (e ∷ h) row a =
+    ⊎-elim
+    (λ (w : isWrite (e .reply) ≡ true).
+        let top : latestOf o (e ∷ h) ≡ latestOf o h + 1 = cond-true (isWrite (e .reply)) _ _ w in
+        ⊎-elim (λ old. let l = rows-past o h row old in omega arith)
+        (λ new. let was = among-mapped (λ (c : Change). record { moment = latestOf o h + 1; tag = changeTag c }) row (e .changes) new in let m = ap (λ (r : Row). r .moment) (was .2) in omega arith)
+        (members.among-append row (rowsOf o h) (rowsOfWrite (latestOf o h + 1) (e .changes)) (subst (Among row) (rows-new o h e w) a)))
+    (λ (w : isWrite (e .reply) ≡ false).
+        let same : latestOf o (e ∷ h) ≡ latestOf o h = cond-false (isWrite (e .reply)) _ _ w in
+        let l = rows-past o h row (subst (Among row) (cond-false (isWrite (e .reply)) _ _ w) a) in omega arith)
+    (cases-bool (isWrite (e .reply)))
+
+later-rows : (T : ℕ) (rows : List Row) → kept-by (λ row. not (isOf (T + 1) row)) (kept-by (λ row. ltb T (row .moment)) rows) ≡ kept-by (λ row. ltb (T + 1) (row .moment)) rows
+later-rows T [] = refl
+later-rows T (row ∷ rows) =
+    let ih = later-rows T rows in
+    let m = row .moment in
+    ⊎-elim
+    (λ (a : ltb T m ≡ true).
+        let l = ltb-true T m a in
+        ⊎-elim
+        (λ (b : eqb m (T + 1) ≡ true). let is = eqb-true m (T + 1) b in let c : ltb (T + 1) m ≡ false = le-ltb (T + 1) m (omega arith) in rw a (rw b (rw c ih)))
+        (λ (b : eqb m (T + 1) ≡ false). let ne = eqb-false m (T + 1) b in let c : ltb (T + 1) m ≡ true = lt-ltb (T + 1) m (omega arith) in rw a (rw b (rw c (ap (λ rs. row ∷ rs) ih))))
+        (cases-bool (eqb m (T + 1))))
+    (λ (a : ltb T m ≡ false). let l = ltb-false T m a in let c : ltb (T + 1) m ≡ false = le-ltb (T + 1) m (omega arith) in rw a (rw c ih))
+    (cases-bool (ltb T m))
+
+closes-each : (n : ℕ) (rows : List Row) (before after : List Entry) → ClosesAll n rows before after → (e : Entry) → Among e after → (was : Entry) × Among was before × (e ≡ closedAll rows n was)
+closes-each n rows before after (calls.ClosesAll.none b) e a = (e, a, refl)
+closes-each n rows before after (calls.ClosesAll.more row rest b between c one all) e a =
+    let mid = closes-each n rest between c all e a in
+    let first = one .only (mid .0) (mid .1) in
+    (first .0, first .1, mid .2 ∙ ap (closedAll rest n) (first .2))
+
+closedAll-key : (rows : List Row) (n : ℕ) (e : Entry) → (closedAll rows n e .key ≡ e .key) × (closedAll rows n e .reading ≡ e .reading)
+closedAll-key [] n e = (refl, refl)
+closedAll-key (row ∷ rows) n e =
+    let rest = closedAll-key rows n (closed (row .tag) n e) in
+    let one : (closed (row .tag) n e .key ≡ e .key) × (closed (row .tag) n e .reading ≡ e .reading) =
+        ⊎-elim (λ (c : closes (row .tag) n e ≡ true). rw c (refl, refl)) (λ (c : closes (row .tag) n e ≡ false). rw c (refl, refl)) (cases-bool (closes (row .tag) n e)) in
+    (rest .0 ∙ one .0, rest .1 ∙ one .1)
+
+pub deliver-core : (p : Rules) (o : Origin) (h : List Event) (e : Event) (hall : Hall) (row : Row) (rows : List Row) (entries : List Entry) → Core p o h hall → isWrite (e .reply) ≡ false → e .given ≡ None
+    → hall .books .rows ≡ row ∷ rows
+    → ClosesAll (hall .books .delivered + 1) (kept-by (isOf (hall .books .delivered + 1)) (hall .books .rows)) (hall .entries) entries
+    → Core p o (e ∷ h) (record { db = hall .db; entries = entries; books = withStream (hall .books .delivered + 1) (kept-by (λ other. not (isOf (hall .books .delivered + 1) other)) (hall .books .rows)) (hall .books) })
+deliver-core p o h e hall row rows entries core w none first closes =
+    let books = hall .books in
+    let T = books .delivered in
+    let in-rows : Among row (kept-by (λ row. ltb T (row .moment)) (rowsOf o h)) = subst (Among row) (core .stream) (subst (Among row) (sym first) (inl refl)) in
+    let parts = kept-among (λ row. ltb T (row .moment)) row (rowsOf o h) in-rows in
+    let over = ltb-true T (row .moment) (parts .1) in
+    let under = rows-past o h row (parts .0) in
+    let late : T + 1 ≤ hall .db .latest = let y = core .latest in omega arith in
+    let all : (r : Row) → Among r (rowsOf o h) → r .moment ≡ T + 1 → Among r (kept-by (isOf (T + 1)) (books .rows)) =
+        λ r a is. members.among-kept (isOf (T + 1)) r (books .rows) (subst (Among r) (sym (core .stream)) (members.among-kept (λ row. ltb T (row .moment)) r (rowsOf o h) a (lt-ltb T (r .moment) (omega arith)))) (eq-eqb (r .moment) (T + 1) is) in
+    let hall′ : Hall = record { db = hall .db; entries = entries; books = withStream (T + 1) (kept-by (λ other. not (isOf (T + 1) other)) (books .rows)) books } in
+    let core′ : Core p o h hall′ = record {
+        latest = core .latest; past = late;
+        stream = ap (kept-by (λ other. not (isOf (T + 1) other))) (core .stream) ∙ later-rows T (rowsOf o h);
+        sound = core .sound; faithful = core .faithful; same = core .same; once = core .once; uses = core .uses; apart = core .apart;
+        entries = λ x a.
+            let was = closes-each (T + 1) (kept-by (isOf (T + 1)) (books .rows)) (hall .entries) entries closes x a in
+            let key = closedAll-key (kept-by (isOf (T + 1)) (books .rows)) (T + 1) (was .0) in
+            let claim = deliver-claim o h (hall .db) T (kept-by (isOf (T + 1)) (books .rows)) (was .0) (closedAll (kept-by (isOf (T + 1)) (books .rows)) (T + 1) (was .0)) (λ z. Gives p z (was .0 .key .sheet) (was .0 .key .argument) (was .0 .reading)) late (core .sound .moments) all (comes-to (kept-by (isOf (T + 1)) (books .rows)) (T + 1) (was .0)) (core .entries (was .0) (was .1)) in
+            subst (EntryGood p o h (hall .db) (T + 1)) (sym (was .2))
+            (subst (λ k. Claim o h (hall .db) (entryPart (T + 1) (closedAll (kept-by (isOf (T + 1)) (books .rows)) (T + 1) (was .0))) (λ z. Gives p z (k .sheet) (k .argument) (closedAll (kept-by (isOf (T + 1)) (books .rows)) (T + 1) (was .0) .reading))) (sym (key .0))
+             (subst (λ r. Claim o h (hall .db) (entryPart (T + 1) (closedAll (kept-by (isOf (T + 1)) (books .rows)) (T + 1) (was .0))) (λ z. Gives p z (was .0 .key .sheet) (was .0 .key .argument) r)) (sym (key .1)) claim));
+        txs = core .txs; givens = core .givens } in
+    core-append p o h e hall′ w (gives-nothing p o h e (books .next) (books .txs) none) core′
+
+-- a sweep
+pub record Gone (ms : List ℕ) (db after : Db) : Type 0 where
+  pub latest : after .latest ≡ db .latest
+  pub pins : (n : ℕ) → among n (after .pins) ≡ (among n (db .pins) && not (among n ms))
+  pub states : (n t k : ℕ) → held after n ≡ true → after .at n t k ≡ db .at n t k
+
+both : (a b c : Bool) → ((a && not b) && not c) ≡ (a && not (b || c))
+both true true c = refl
+both true false c = refl
+both false b c = refl
+
+gone : (ms : List ℕ) (db after : Db) → UnpinsEach ms db after → Gone ms db after
+gone ms db after (calls.UnpinsEach.none d) = record { latest = refl; pins = λ n. grind arith; states = λ n t k hd. refl }
+gone ms db after (calls.UnpinsEach.more m rest d between a one all) =
+    let ih = gone rest between a all in
+    record {
+        latest = ih .latest ∙ one .latest;
+        pins = λ n. let x = ih .pins n in let y = one .pins n in x ∙ ap (λ b. b && not (among n rest)) y ∙ both (among n (d .pins)) (eqb n m) (among n rest);
+        states = λ n t k hd. ih .states n t k hd ∙ one .states n t k (⊎-elim (λ e. or-left _ _ (eq-eqb n (between .latest) (eqb-true n (a .latest) e ∙ ih .latest))) (λ p. or-right (eqb n (between .latest)) (among n (between .pins)) (and-parts (among n (between .pins)) (not (among n rest)) (sym (ih .pins n) ∙ p) .0)) (or-cases _ _ hd)) }
+
+old-unused : (now age : ℕ) (pin : Pin) → isOld now age pin ≡ true → pin .uses ≡ 0
+old-unused now age pin e = eqb-true (pin .uses) 0 (and-parts _ _ e .0)
+
+-- the pin of a moment
+pin-of : (m : ℕ) (pins : List Pin) → among m (moments pins) ≡ true → (pin : Pin) × Among pin pins × (pin .moment ≡ m)
+pin-of m [] a = absurd (both-ways false refl a)
+pin-of m (x ∷ pins) a = ⊎-elim (λ e. (x, inl refl, sym (eqb-true m (x .moment) e))) (λ b. let w = pin-of m pins b in (w .0, inr (w .1), w .2)) (or-cases _ _ a)
+
+split-moments : (f : Pin → Bool) (pins : List Pin) (m : ℕ) → distinct (moments pins) ≡ true → (among m (moments pins) && not (among m (moments (kept-by f pins)))) ≡ among m (moments (kept-by (λ pin. not (f pin)) pins))
+split-moments f pins m d =
+    ⊎-elim
+    (λ (a : among m (moments pins) ≡ true).
+        let w = pin-of m pins a in
+        let x = kept-moments f pins (w .0) d (w .1) in
+        let y = kept-moments (λ pin. not (f pin)) pins (w .0) d (w .1) in
+        let x′ : among m (moments (kept-by f pins)) ≡ f (w .0) = ap (λ k. among k (moments (kept-by f pins))) (sym (w .2)) ∙ x in
+        let y′ : among m (moments (kept-by (λ pin. not (f pin)) pins)) ≡ not (f (w .0)) = ap (λ k. among k (moments (kept-by (λ pin. not (f pin)) pins))) (sym (w .2)) ∙ y in
+        ap (λ b. b && not (among m (moments (kept-by f pins)))) a ∙ ap not x′ ∙ sym y′)
+    (λ (a : among m (moments pins) ≡ false).
+        let z : among m (moments (kept-by (λ pin. not (f pin)) pins)) ≡ false = ⊎-elim (λ (e : among m (moments (kept-by (λ pin. not (f pin)) pins)) ≡ true). absurd (both-ways (among m (moments pins)) a (some-moments (λ pin. not (f pin)) pins m e))) (λ (e : among m (moments (kept-by (λ pin. not (f pin)) pins)) ≡ false). e) (cases-bool (among m (moments (kept-by (λ pin. not (f pin)) pins)))) in
+        ap (λ b. b && not (among m (moments (kept-by f pins)))) a ∙ sym z)
+    (cases-bool (among m (moments pins)))
+
+pub sweep-core : (p : Rules) (o : Origin) (h : List Event) (e : Event) (now age : ℕ) (hall : Hall) (db : Db) (entries : List Entry) (lowest : ℕ) → Core p o h hall → Sound db → isWrite (e .reply) ≡ false → e .given ≡ None
+    → UnpinsEach (moments (kept-by (isOld now age) (hall .books .pins))) (hall .db) db
+    → Drops (hall .entries) lowest entries
+    → Core p o (e ∷ h) (record { db = db; entries = entries; books = withTransactions (kept-by (λ pin. not (isOld now age pin)) (hall .books .pins)) (hall .books .txs) (hall .books) })
+sweep-core p o h e now age hall db entries lowest core sound w none unpins drops =
+    let books = hall .books in
+    let pins = books .pins in
+    let went = gone (moments (kept-by (isOld now age) pins)) (hall .db) db unpins in
+    let pins′ = kept-by (λ pin. not (isOld now age pin)) pins in
+    let fewer : (n : ℕ) → held db n ≡ true → held (hall .db) n ≡ true =
+        λ n hd. ⊎-elim (λ x. or-left _ _ (eq-eqb n (hall .db .latest) (eqb-true n (db .latest) x ∙ went .latest))) (λ x. or-right (eqb n (hall .db .latest)) (among n (hall .db .pins)) (and-parts (among n (hall .db .pins)) (not (among n (moments (kept-by (isOld now age) pins)))) (sym (went .pins n) ∙ x) .0)) (or-cases _ _ hd) in
+    let core₁ = core-change p o h hall db pins′ (books .txs) core (went .latest) fewer sound (went .states)
+        (λ n. went .pins n ∙ ap (λ b. b && not (among n (moments (kept-by (isOld now age) pins)))) (core .same n) ∙ split-moments (isOld now age) pins n (core .once))
+        (distinct-some (λ pin. not (isOld now age pin)) pins (core .once))
+        (λ pin a. core .uses pin (kept-among (λ pin. not (isOld now age pin)) pin pins a .0))
+        (core .apart)
+        (λ t a m b c.
+            let x = pin-of m pins (core .txs t a .pinned m b) in
+            let u = core .uses (x .0) (x .1) in
+            let some = holders-some m t (books .txs) a b in
+            let young : isOld now age (x .0) ≡ false =
+                ⊎-elim (λ (y : isOld now age (x .0) ≡ true). let z = old-unused now age (x .0) y in let v = ap (λ k. holders k (books .txs)) (x .2) in absurd (omega arith)) (λ (y : isOld now age (x .0) ≡ false). y) (cases-bool (isOld now age (x .0))) in
+            ap (λ k. among k (moments pins′)) (sym (x .2)) ∙ pin-moment (x .0) pins′ (members.among-kept (λ pin. not (isOld now age pin)) (x .0) pins (x .1) (not-from-false _ young)))
+        (λ t a. inr a) in
+    let core₂ = core-entries p o h (record { db = db; entries = hall .entries; books = withTransactions pins′ (books .txs) books }) entries core₁ (λ x a. core₁ .entries x (drops .only x a .0)) in
+    core-append p o h e (record { db = db; entries = entries; books = withTransactions pins′ (books .txs) books }) w (gives-nothing p o h e (books .next) (books .txs) none) core₂
