@@ -9,3 +9,4 @@ pub mod Asked
 pub mod Stepped
 pub mod Turns
 pub mod Lives
+pub mod Consequences

@@ -192,7 +192,7 @@ does-counts p h hall hall′ call changes reply given apart (calls.Does.wrote cs
 does-counts p h hall hall′ call changes reply given apart (calls.Does.delivered row rows entries first closes) c = counts-same h _ (hall .books .txs) (hall .books .txs) (refl, refl, refl, λ n. refl, λ n. refl) refl c
 does-counts p h hall hall′ call changes reply given apart (calls.Does.swept now age db entries unpins drops) c = counts-same h _ (hall .books .txs) (hall .books .txs) (refl, refl, refl, λ n. refl, λ n. refl) refl c
 
-carried : (p : Rules) (o : Origin) (h : List Event) (hall : Hall) → Lives p o h hall → Core p o h hall × Counts h (hall .books .txs)
+pub carried : (p : Rules) (o : Origin) (h : List Event) (hall : Hall) → Lives p o h hall → Core p o h hall × Counts h (hall .books .txs)
 carried p o h hall (traces.Lives.made db first size hall₀ makes sound at records) =
     (made-core p o db first size hall₀ makes sound at records,
      let none : hall₀ .books .txs ≡ [] = ap (λ (b : Books). b .txs) (makes .books) in

@@ -8,3 +8,17 @@ pub fn law_stands() -> u8
 {
     0
 }
+
+// No call of a hall ever meets a moment that is not held.
+pub fn always_held() -> u8
+    ensures { λ _. ⌜ Always-held ⌝ }
+{
+    0
+}
+
+// Halls of one recipe and different make, given the same records, show equal sheets at one moment.
+pub fn halls_agree() -> u8
+    ensures { λ _. ⌜ Halls-agree ⌝ }
+{
+    0
+}
