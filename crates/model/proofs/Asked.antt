@@ -93,7 +93,7 @@ dropped-core p o h e hall tx core is w none =
 pub hit-core : (p : Rules) (o : Origin) (h : List Event) (number sheet argument : ℕ) (hall : Hall) (tx : Transaction) (entry : Entry) (entries : List Entry) → Core p o h hall → find number (hall .books .txs) ≡ Some tx → hasFrames tx ≡ false
     → Looks (hall .entries) (keyOf sheet argument) (tx .set) (hall .books .delivered) (Some entry) → Same (hall .entries) entries
     → Core p o (record { call = Sheet number sheet argument; changes = []; reply = Read (entry .reading); given = Some (record { number = number; question = ofSheet sheet argument; reading = entry .reading }) } ∷ h)
-      (record { db = hall .db; entries = entries; books = withTx (narrowed (hitPart (hall .books .delivered) entry) tx) (hall .books .pins) (hall .books) })
+    (record { db = hall .db; entries = entries; books = withTx (narrowed (hitPart (hall .books .delivered) entry) tx) (hall .books .pins) (hall .books) })
 hit-core p o h number sheet argument hall tx entry entries core is shut looks same =
     let T = hall .books .delivered in
     let core₁ = same-entries p o h hall entries same core in
@@ -119,7 +119,7 @@ only-fresh sheet argument (suc i) g x = absurd (none-frame g x)
 
 pub miss-core : (p : Rules) (o : Origin) (h : List Event) (number sheet argument : ℕ) (hall : Hall) (tx : Transaction) (entries : List Entry) → Core p o h hall → find number (hall .books .txs) ≡ Some tx → sheet < p .sheets → Same (hall .entries) entries
     → Core p o (record { call = Sheet number sheet argument; changes = []; reply = Open; given = None } ∷ h)
-      (record { db = hall .db; entries = entries; books = withTx (withFrames (freshFrame sheet argument ∷ []) tx) (hall .books .pins) (hall .books) })
+    (record { db = hall .db; entries = entries; books = withTx (withFrames (freshFrame sheet argument ∷ []) tx) (hall .books .pins) (hall .books) })
 miss-core p o h number sheet argument hall tx entries core is there same =
     let core₁ = same-entries p o h hall entries same core in
     let good = core .txs tx (found number (hall .books .txs) tx is .0) in
@@ -134,7 +134,7 @@ miss-core p o h number sheet argument hall tx entries core is there same =
 pub queried-core : (p : Rules) (o : Origin) (h : List Event) (number now m : ℕ) (query : Query) (hall : Hall) (tx tx′ : Transaction) (db : Db) (pins : List Pin) (answer : Answer) → Core p o h hall → Sound db → find number (hall .books .txs) ≡ Some tx → hasFrames tx ≡ false
     → Picks (hall .db) (hall .books .pins) tx now m db pins tx′ → Asks db m query (Ok answer)
     → Core p o (record { call = Directly number query now; changes = []; reply = Read (answer .reading); given = Some (record { number = number; question = ofQuery query; reading = answer .reading }) } ∷ h)
-      (record { db = db; entries = hall .entries; books = withTx (narrowed (answerPart answer) tx′) pins (hall .books) })
+    (record { db = db; entries = hall .entries; books = withTx (narrowed (answerPart answer) tx′) pins (hall .books) })
 queried-core p o h number now m query hall tx tx′ db pins answer core sound is shut picks asks =
     let at = found-at number (hall .books .txs) tx is in
     let pick = core-pick p o h hall tx tx′ now m db pins core at sound picks in
@@ -146,7 +146,7 @@ queried-core p o h number now m query hall tx tx′ db pins answer core sound is
     let e : Event = record { call = Directly number query now; changes = []; reply = Read (answer .reading); given = Some (record { number = number; question = ofQuery query; reading = answer .reading }) } in
     let nar = narrowed (answerPart answer) tx′ in
     let out = core-given p o h e hall₁ tx′ (answerPart answer) (tx′ .frames) (λ z. Reads z query (answer .reading)) m (record { number = number; question = ofQuery query; reading = answer .reading })
-        (pick .core) find₁ claim (pick .chosen) (asks .1 .inside)
-        (λ i g x. absurd (let was = nth-cut (answerPart answer) i (tx′ .frames) g x in nth-none i (tx′ .frames) (was .0) (pick .frames ∙ no-frames (tx .frames) shut) (was .1)))
-        (good .inside) (good .sheets) refl refl (sym (found number (hall .books .txs) tx is .1) ∙ sym (pick .number)) (λ z x. x) in
+    (pick .core) find₁ claim (pick .chosen) (asks .1 .inside)
+    (λ i g x. absurd (let was = nth-cut (answerPart answer) i (tx′ .frames) g x in nth-none i (tx′ .frames) (was .0) (pick .frames ∙ no-frames (tx .frames) shut) (was .1)))
+    (good .inside) (good .sheets) refl refl (sym (found number (hall .books .txs) tx is .1) ∙ sym (pick .number)) (λ z x. x) in
     subst (λ (ts : List Transaction). Core p o (e ∷ h) (record { db = db; entries = hall .entries; books = withTransactions pins ts (hall .books) })) (replaced-again nar tx′ (hall .books .txs) refl) out

@@ -88,39 +88,39 @@ with-uses : (L now : ℕ) (pins : List Pin) (txs : List Transaction) (tx : Trans
 with-uses L now pins txs tx is own uses holds pin a =
     let changed : (m : ℕ) → holders m (replaced (withLatest L tx) txs) + bit m tx ≡ holders m txs + bit m (withLatest L tx) = λ m. holders-replaced m tx (withLatest L tx) txs is in
     let other : (x : Pin) → Among x pins → (x .moment ≡ L → ⊥) → x .uses ≡ holders (x .moment) (replaced (withLatest L tx) txs) =
-        λ x b ne. let u = uses x b in let c = changed (x .moment) in let d = bit-other (x .moment) L tx ne in omega arith in
+    λ x b ne. let u = uses x b in let c = changed (x .moment) in let d = bit-other (x .moment) L tx ne in omega arith in
     ⊎-elim
     (λ (there : among L (moments pins) ≡ true).
-        let was = among-mapped (renewed L now (among L (tx .holds))) pin pins (subst (Among pin) (cond-true (among L (moments pins)) _ _ there) a) in
-        let x = was .0 in
-        subst (λ (y : Pin). y .uses ≡ holders (y .moment) (replaced (withLatest L tx) txs)) (sym (was .2))
-        (⊎-elim
-            (λ (e : eqb (x .moment) L ≡ true).
-                let u = uses x (was .1) in
-                let m-is = eqb-true (x .moment) L e in
-                let u′ : x .uses ≡ holders L txs = u ∙ ap (λ m. holders m txs) m-is in
-                let c = changed L in let d = bit-latest L tx in
-                subst (λ (y : Pin). y .uses ≡ holders (y .moment) (replaced (withLatest L tx) txs)) (sym (cond-true (eqb (x .moment) L) _ _ e))
-                (⊎-elim
-                    (λ (b : among L (tx .holds) ≡ true). let w : bit L tx ≡ 1 = cond-true (among L (tx .holds)) 1 0 b in let v : usedMore (among L (tx .holds)) (x .uses) ≡ x .uses = cond-true (among L (tx .holds)) _ _ b in omega arith)
-                    (λ (b : among L (tx .holds) ≡ false). let w : bit L tx ≡ 0 = cond-false (among L (tx .holds)) 1 0 b in let v : usedMore (among L (tx .holds)) (x .uses) ≡ x .uses + 1 = cond-false (among L (tx .holds)) _ _ b in omega arith)
-                    (cases-bool (among L (tx .holds)))))
-            (λ (e : eqb (x .moment) L ≡ false).
-                subst (λ (y : Pin). y .uses ≡ holders (y .moment) (replaced (withLatest L tx) txs)) (sym (cond-false (eqb (x .moment) L) _ _ e)) (other x (was .1) (eqb-false (x .moment) L e)))
-            (cases-bool (eqb (x .moment) L))))
+    let was = among-mapped (renewed L now (among L (tx .holds))) pin pins (subst (Among pin) (cond-true (among L (moments pins)) _ _ there) a) in
+    let x = was .0 in
+    subst (λ (y : Pin). y .uses ≡ holders (y .moment) (replaced (withLatest L tx) txs)) (sym (was .2))
+    (⊎-elim
+    (λ (e : eqb (x .moment) L ≡ true).
+    let u = uses x (was .1) in
+    let m-is = eqb-true (x .moment) L e in
+    let u′ : x .uses ≡ holders L txs = u ∙ ap (λ m. holders m txs) m-is in
+    let c = changed L in let d = bit-latest L tx in
+    subst (λ (y : Pin). y .uses ≡ holders (y .moment) (replaced (withLatest L tx) txs)) (sym (cond-true (eqb (x .moment) L) _ _ e))
+    (⊎-elim
+    (λ (b : among L (tx .holds) ≡ true). let w : bit L tx ≡ 1 = cond-true (among L (tx .holds)) 1 0 b in let v : usedMore (among L (tx .holds)) (x .uses) ≡ x .uses = cond-true (among L (tx .holds)) _ _ b in omega arith)
+    (λ (b : among L (tx .holds) ≡ false). let w : bit L tx ≡ 0 = cond-false (among L (tx .holds)) 1 0 b in let v : usedMore (among L (tx .holds)) (x .uses) ≡ x .uses + 1 = cond-false (among L (tx .holds)) _ _ b in omega arith)
+    (cases-bool (among L (tx .holds)))))
+    (λ (e : eqb (x .moment) L ≡ false).
+    subst (λ (y : Pin). y .uses ≡ holders (y .moment) (replaced (withLatest L tx) txs)) (sym (cond-false (eqb (x .moment) L) _ _ e)) (other x (was .1) (eqb-false (x .moment) L e)))
+    (cases-bool (eqb (x .moment) L))))
     (λ (out : among L (moments pins) ≡ false).
-        ⊎-elim
-        (λ old. other pin old (λ e. both-ways (among L (moments pins)) out (ap (λ m. among m (moments pins)) (sym e) ∙ pin-moment pin pins old)))
-        (λ new.
-            let fresh : Pin = record { moment = L; time = now; uses = 1 } in
-            let none : (t : Transaction) → Among t txs → among L (t .holds) ≡ false =
-                λ t b. ⊎-elim (λ (e : among L (t .holds) ≡ true). absurd (both-ways (among L (moments pins)) out (holds t b L e))) (λ (e : among L (t .holds) ≡ false). e) (cases-bool (among L (t .holds))) in
-            let z = holders-none L txs none in
-            let w : bit L tx ≡ 0 = cond-false (among L (tx .holds)) 1 0 (none tx own) in
-            let c = changed L in let d = bit-latest L tx in
-            let one : 1 ≡ holders L (replaced (withLatest L tx) txs) = omega arith in
-            ⊎-elim (λ (e : pin ≡ fresh). subst (λ (y : Pin). y .uses ≡ holders (y .moment) (replaced (withLatest L tx) txs)) (sym e) one) (λ b. absurd b) new)
-        (among-append pin pins (record { moment = L; time = now; uses = 1 } ∷ []) (subst (Among pin) (cond-false (among L (moments pins)) _ _ out) a)))
+    ⊎-elim
+    (λ old. other pin old (λ e. both-ways (among L (moments pins)) out (ap (λ m. among m (moments pins)) (sym e) ∙ pin-moment pin pins old)))
+    (λ new.
+    let fresh : Pin = record { moment = L; time = now; uses = 1 } in
+    let none : (t : Transaction) → Among t txs → among L (t .holds) ≡ false =
+    λ t b. ⊎-elim (λ (e : among L (t .holds) ≡ true). absurd (both-ways (among L (moments pins)) out (holds t b L e))) (λ (e : among L (t .holds) ≡ false). e) (cases-bool (among L (t .holds))) in
+    let z = holders-none L txs none in
+    let w : bit L tx ≡ 0 = cond-false (among L (tx .holds)) 1 0 (none tx own) in
+    let c = changed L in let d = bit-latest L tx in
+    let one : 1 ≡ holders L (replaced (withLatest L tx) txs) = omega arith in
+    ⊎-elim (λ (e : pin ≡ fresh). subst (λ (y : Pin). y .uses ≡ holders (y .moment) (replaced (withLatest L tx) txs)) (sym e) one) (λ b. absurd b) new)
+    (among-append pin pins (record { moment = L; time = now; uses = 1 } ∷ []) (subst (Among pin) (cond-false (among L (moments pins)) _ _ out) a)))
     (cases-bool (among L (moments pins)))
 
 -- the transaction, once the latest moment has taken the present's place
@@ -134,16 +134,17 @@ latest-good : (p : Rules) (o : Origin) (h : List Event) (db db′ : Db) (pins pi
 latest-good p o h db db′ pins pins′ next L tx top pr same fewer keep in-pins good =
     let split : (m : ℕ) (xs : List ℕ) → among m (added L xs) ≡ true → (m ≡ L) ⊎ (among m xs ≡ true) = λ m xs a. ⊎-elim (λ e. inl (eqb-true m L e)) inr (or-cases _ _ (sym (among-added m L xs) ∙ a)) in
     record {
-        younger = good .younger;
-        holds = λ m a. ⊎-elim (λ e. among-added m L (tx .holds) ∙ or-left _ _ (eq-eqb m L e)) (λ b. among-added m L (tx .holds) ∙ or-right _ _ (good .holds m b)) (split m (tx .set) a);
-        pinned = λ m a. ⊎-elim (λ e. ap (λ k. among k (moments pins′)) e ∙ in-pins) (keep m) (split m (tx .holds) a);
-        some = λ x. (L, among-added L L (tx .set) ∙ or-left _ _ (eq-eqb L L refl));
-        whole = λ x. absurd (both-ways false refl x);
-        free = λ x. absurd (both-ways false refl x);
-        inside = λ m a i g is. ⊎-elim (λ e. subst (λ (part : Part). contains (part .interval) m ≡ true) (sym (good .whole pr i g is)) (ap (contains (wholePart .interval)) e ∙ whole-contains L top)) (λ b. good .inside m b i g is) (split m (tx .set) a);
-        stack = λ i g is. claim-held o h db db′ (g .part) _ same fewer (good .stack i g is);
-        sheets = good .sheets;
-        right = λ given g is m a. good .free pr given g is (recordsAt o h m) }
+      younger = good .younger;
+      holds = λ m a. ⊎-elim (λ e. among-added m L (tx .holds) ∙ or-left _ _ (eq-eqb m L e)) (λ b. among-added m L (tx .holds) ∙ or-right _ _ (good .holds m b)) (split m (tx .set) a);
+      pinned = λ m a. ⊎-elim (λ e. ap (λ k. among k (moments pins′)) e ∙ in-pins) (keep m) (split m (tx .holds) a);
+      some = λ x. (L, among-added L L (tx .set) ∙ or-left _ _ (eq-eqb L L refl));
+      whole = λ x. absurd (both-ways false refl x);
+      free = λ x. absurd (both-ways false refl x);
+      inside = λ m a i g is. ⊎-elim (λ e. subst (λ (part : Part). contains (part .interval) m ≡ true) (sym (good .whole pr i g is)) (ap (contains (wholePart .interval)) e ∙ whole-contains L top)) (λ b. good .inside m b i g is) (split m (tx .set) a);
+      stack = λ i g is. claim-held o h db db′ (g .part) _ same fewer (good .stack i g is);
+      sheets = good .sheets;
+      right = λ given g is m a. good .free pr given g is (recordsAt o h m);
+    }
 
 pub holders-some : (m : ℕ) (t : Transaction) (txs : List Transaction) → Among t txs → among m (t .holds) ≡ true → 0 < holders m txs
 holders-some m t [] a b = absurd a
@@ -191,8 +192,11 @@ pub record Picked (p : Rules) (o : Origin) (h : List Event) (hall : Hall) (tx : 
 
 same-picked : (p : Rules) (o : Origin) (h : List Event) (hall : Hall) (tx : Transaction) (m : ℕ) → Core p o h hall → find (tx .number) (hall .books .txs) ≡ Some tx → newestOf (tx .set) ≡ Some m → Picked p o h hall tx m (hall .db) (hall .books .pins) tx
 same-picked p o h hall tx m core is new = record {
-    core = core-tx p o h hall tx tx core is refl (core .txs tx (found (tx .number) (hall .books .txs) tx is .0));
-    chosen = newest-among (tx .set) m new; frames = refl; number = refl }
+  core = core-tx p o h hall tx tx core is refl (core .txs tx (found (tx .number) (hall .books .txs) tx is .0));
+  chosen = newest-among (tx .set) m new;
+  frames = refl;
+  number = refl;
+}
 
 -- the latest moment is pinned over a base of pins that keeps all that is held
 latest-picked : (p : Rules) (o : Origin) (h : List Event) (hall : Hall) (tx : Transaction) (now : ℕ) (db₁ db′ : Db) (base : List Pin) → Core p o h hall → find (tx .number) (hall .books .txs) ≡ Some tx → tx .present ≡ true → Sound db′
@@ -207,27 +211,29 @@ latest-picked p o h hall tx now db₁ db′ base core is pr sound same base-pins
     let own = found (tx .number) (hall .books .txs) tx is in
     let latest : db′ .latest ≡ L = pin .latest ∙ same in
     let to₁ : (n : ℕ) → held db′ n ≡ true → held db₁ n ≡ true =
-        λ n hd. ⊎-elim (λ e. or-left _ _ (eq-eqb n (db₁ .latest) (eqb-true n (db′ .latest) e ∙ pin .latest)))
-            (λ a. ⊎-elim (λ e. or-left _ _ (eq-eqb n (db₁ .latest) (eqb-true n L e ∙ sym same))) (or-right _ _) (or-cases _ _ (sym (pin .pins n) ∙ a))) (or-cases _ _ hd) in
+    λ n hd. ⊎-elim (λ e. or-left _ _ (eq-eqb n (db₁ .latest) (eqb-true n (db′ .latest) e ∙ pin .latest)))
+    (λ a. ⊎-elim (λ e. or-left _ _ (eq-eqb n (db₁ .latest) (eqb-true n L e ∙ sym same))) (or-right _ _) (or-cases _ _ (sym (pin .pins n) ∙ a))) (or-cases _ _ hd) in
     let fewer : (n : ℕ) → held db′ n ≡ true → held (hall .db) n ≡ true =
-        λ n hd. ⊎-elim (λ e. or-left _ _ (eq-eqb n L (eqb-true n (db₁ .latest) e ∙ same))) (λ a. or-right _ _ (fewer-pins n a)) (or-cases _ _ (to₁ n hd)) in
+    λ n hd. ⊎-elim (λ e. or-left _ _ (eq-eqb n L (eqb-true n (db₁ .latest) e ∙ same))) (λ a. or-right _ _ (fewer-pins n a)) (or-cases _ _ (to₁ n hd)) in
     let pins′ = pinsWith L now (among L (tx .holds)) base in
     let with : (n : ℕ) → among n (moments pins′) ≡ (eqb n L || among n (moments base)) = λ n. ap (among n) (moments-with L now (among L (tx .holds)) base) ∙ among-added n L (moments base) in
     let more : (n : ℕ) → among n (moments base) ≡ true → among n (moments pins′) ≡ true = λ n a. with n ∙ or-right _ _ a in
     record {
-        core = core-change p o h hall db′ pins′ (replaced (withLatest L tx) (hall .books .txs)) core latest fewer sound
-            (λ n t k hd. pin .states n t k (to₁ n hd) ∙ states n t k (to₁ n hd))
-            (λ n. pin .pins n ∙ ap (λ b. eqb n L || b) (base-pins n) ∙ sym (with n))
-            (ap distinct (moments-with L now (among L (tx .holds)) base) ∙ distinct-added L (moments base) once)
-            (with-uses L now base (hall .books .txs) tx is (own .0) (λ x a. core .uses x (part x a)) keep)
-            (ap distinct (numbers-replaced (withLatest L tx) (hall .books .txs)) ∙ core .apart)
-            (λ t a m b c. more m (keep t a m b))
-            (λ t a. ⊎-elim
-                (λ e. inl (subst (TxGood p o h db′ pins′ (hall .books .next)) (sym e)
-                    (latest-good p o h (hall .db) db′ (hall .books .pins) pins′ (hall .books .next) L tx (core .sound .moments) pr latest fewer (λ m b. more m (keep tx (own .0) m b)) (with L ∙ or-left _ _ (eq-eqb L L refl)) (core .txs tx (own .0)))))
-                inr (in-replaced (withLatest L tx) (hall .books .txs) t a));
-        chosen = among-added L L (tx .set) ∙ or-left _ _ (eq-eqb L L refl);
-        frames = refl; number = refl }
+      core = core-change p o h hall db′ pins′ (replaced (withLatest L tx) (hall .books .txs)) core latest fewer sound
+          (λ n t k hd. pin .states n t k (to₁ n hd) ∙ states n t k (to₁ n hd))
+          (λ n. pin .pins n ∙ ap (λ b. eqb n L || b) (base-pins n) ∙ sym (with n))
+          (ap distinct (moments-with L now (among L (tx .holds)) base) ∙ distinct-added L (moments base) once)
+          (with-uses L now base (hall .books .txs) tx is (own .0) (λ x a. core .uses x (part x a)) keep)
+          (ap distinct (numbers-replaced (withLatest L tx) (hall .books .txs)) ∙ core .apart)
+          (λ t a m b c. more m (keep t a m b))
+          (λ t a. ⊎-elim
+          (λ e. inl (subst (TxGood p o h db′ pins′ (hall .books .next)) (sym e)
+          (latest-good p o h (hall .db) db′ (hall .books .pins) pins′ (hall .books .next) L tx (core .sound .moments) pr latest fewer (λ m b. more m (keep tx (own .0) m b)) (with L ∙ or-left _ _ (eq-eqb L L refl)) (core .txs tx (own .0)))))
+          inr (in-replaced (withLatest L tx) (hall .books .txs) t a));
+      chosen = among-added L L (tx .set) ∙ or-left _ _ (eq-eqb L L refl);
+      frames = refl;
+      number = refl;
+    }
 
 pub core-pick : (p : Rules) (o : Origin) (h : List Event) (hall : Hall) (tx tx′ : Transaction) (now m : ℕ) (db′ : Db) (pins′ : List Pin) → Core p o h hall → find (tx .number) (hall .books .txs) ≡ Some tx → Sound db′
     → Picks (hall .db) (hall .books .pins) tx now m db′ pins′ tx′ → Picked p o h hall tx m db′ pins′ tx′
@@ -248,5 +254,5 @@ core-pick p o h hall tx tx′ now m db′ pins′ core is sound (gaveUp u db₁ 
     (ap distinct ms ∙ distinct-without u (moments (hall .books .pins)) (core .once))
     (λ x a. kept-among (λ pin. not (eqb (pin .moment) u)) x (hall .books .pins) a .0)
     (λ t a n b. in-base n ∙ and-from _ _ (core .txs t a .pinned n b)
-        (not-from-false _ (ne-eqb n u (λ e. let some = holders-some n t (hall .books .txs) a b in let z = ap (λ k. holders k (hall .books .txs)) e in omega arith))))
+    (not-from-false _ (ne-eqb n u (λ e. let some = holders-some n t (hall .books .txs) a b in let z = ap (λ k. holders k (hall .books .txs)) e in omega arith))))
     pin

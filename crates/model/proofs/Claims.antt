@@ -110,9 +110,9 @@ join-right tag xs (y ∷ ys) e =
     let rest = join-right tag more ys e in
     let here = join-left tag more ys e in
     let one : touches tag y ≡ false =
-        ⊎-elim (λ (t : hasTag y xs ≡ true). touched-has tag y xs t (join-left tag xs (y ∷ ys) e))
-        (λ (t : hasTag y xs ≡ false). or-parts _ _ (or-parts _ _ (sym (touched-append tag xs (y ∷ [])) ∙ ap (λ b. touched tag (cond b xs (xs ++ y ∷ []))) (sym t) ∙ here) .1) .0)
-        (cases-bool (hasTag y xs)) in
+    ⊎-elim (λ (t : hasTag y xs ≡ true). touched-has tag y xs t (join-left tag xs (y ∷ ys) e))
+    (λ (t : hasTag y xs ≡ false). or-parts _ _ (or-parts _ _ (sym (touched-append tag xs (y ∷ [])) ∙ ap (λ b. touched tag (cond b xs (xs ++ y ∷ []))) (sym t) ∙ here) .1) .0)
+    (cases-bool (hasTag y xs)) in
     or-from _ _ one rest
 
 agree-split : (xs ys : List Tag) (s z : Records) → AgreeAll (xs ++ ys) s z → AgreeAll xs s z × AgreeAll ys s z
@@ -178,10 +178,11 @@ meet-rests xs ys (Ended e) (Ended f) l r q = tt
 
 pub claim-meet : (o : Origin) (h : List Event) (db : Db) (a b : Part) (P Q : Records → Type 0) → Claim o h db a P → Claim o h db b Q → Claim o h db (meet a b) (λ s. P s × Q s)
 claim-meet o h db a b P Q c d = record {
-    within = meet-within (a .tags) (b .tags) (a .interval .until) (b .interval .until) (db .latest) (c .within) (d .within) (c .rests) (d .rests);
-    begins = let x = c .begins in let y = d .begins in omega arith;
-    rests = meet-rests (a .tags) (b .tags) (a .interval .until) (b .interval .until) (db .latest) (c .rests) (d .rests);
-    holds = λ m hd l. meetAt o h (a .tags) (b .tags) (a .interval .until) (b .interval .until) m P Q (c .holds m hd (omega arith)) (d .holds m hd (omega arith)) }
+  within = meet-within (a .tags) (b .tags) (a .interval .until) (b .interval .until) (db .latest) (c .within) (d .within) (c .rests) (d .rests);
+  begins = let x = c .begins in let y = d .begins in omega arith;
+  rests = meet-rests (a .tags) (b .tags) (a .interval .until) (b .interval .until) (db .latest) (c .rests) (d .rests);
+  holds = λ m hd l. meetAt o h (a .tags) (b .tags) (a .interval .until) (b .interval .until) m P Q (c .holds m hd (omega arith)) (d .holds m hd (omega arith));
+}
 
 -- a moment of both parts is one of what they have in common
 fits-reaches : (xs : List Tag) (t m : ℕ) → m ≤ t → reaches (fitting (Open t) xs) m ≡ true

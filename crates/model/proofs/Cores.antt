@@ -67,8 +67,19 @@ pub record Core (p : Rules) (o : Origin) (h : List Event) (hall : Hall) : Type 0
 pub core-entries : (p : Rules) (o : Origin) (h : List Event) (hall : Hall) (entries : List Entry) → Core p o h hall → ((e : Entry) → Among e entries → EntryGood p o h (hall .db) (hall .books .delivered) e)
     → Core p o h (record { db = hall .db; entries = entries; books = hall .books })
 core-entries p o h hall entries core good = record {
-    latest = core .latest; past = core .past; stream = core .stream; sound = core .sound; faithful = core .faithful; same = core .same; once = core .once;
-    uses = core .uses; apart = core .apart; entries = good; txs = core .txs; givens = core .givens }
+  latest = core .latest;
+  past = core .past;
+  stream = core .stream;
+  sound = core .sound;
+  faithful = core .faithful;
+  same = core .same;
+  once = core .once;
+  uses = core .uses;
+  apart = core .apart;
+  entries = good;
+  txs = core .txs;
+  givens = core .givens;
+}
 
 -- transactions
 some-tx : (one other : Transaction) → Some one ≡ Some other → one ≡ other
@@ -113,13 +124,13 @@ only-one n (x ∷ txs) tx t d e a is =
     let parts = and-parts _ _ d in
     ⊎-elim
     (λ (here : eqb n (x .number) ≡ true).
-        let same = some-tx x tx (sym (cond-true (eqb n (x .number)) _ _ here) ∙ e) in
-        ⊎-elim (λ top. top ∙ same)
-        (λ b. let clash : among (x .number) (numbers txs) ≡ true = ap (λ k. among k (numbers txs)) (sym (eqb-true n (x .number) here) ∙ sym is) ∙ among-number t txs b in
-            absurd (both-ways (among (x .number) (numbers txs)) (not-true _ (parts .0)) clash)) a)
+    let same = some-tx x tx (sym (cond-true (eqb n (x .number)) _ _ here) ∙ e) in
+    ⊎-elim (λ top. top ∙ same)
+    (λ b. let clash : among (x .number) (numbers txs) ≡ true = ap (λ k. among k (numbers txs)) (sym (eqb-true n (x .number) here) ∙ sym is) ∙ among-number t txs b in
+    absurd (both-ways (among (x .number) (numbers txs)) (not-true _ (parts .0)) clash)) a)
     (λ (here : eqb n (x .number) ≡ false).
-        ⊎-elim (λ top. absurd (eqb-false n (x .number) here (sym is ∙ ap (λ (y : Transaction). y .number) top)))
-        (λ b. only-one n txs tx t (parts .1) (sym (cond-false (eqb n (x .number)) _ _ here) ∙ e) b is) a)
+    ⊎-elim (λ top. absurd (eqb-false n (x .number) here (sym is ∙ ap (λ (y : Transaction). y .number) top)))
+    (λ b. only-one n txs tx t (parts .1) (sym (cond-false (eqb n (x .number)) _ _ here) ∙ e) b is) a)
     (cases-bool (eqb n (x .number)))
 
 -- a call that writes nothing, and gives nothing or what is right
@@ -136,24 +147,33 @@ GivesRight p o h e next txs = (given : Given) → e .given ≡ Some given → (g
 
 tx-append : (p : Rules) (o : Origin) (h : List Event) (e : Event) (db : Db) (pins : List Pin) (next : ℕ) (txs : List Transaction) (tx : Transaction) → isWrite (e .reply) ≡ false → GivesRight p o h e next txs → Among tx txs → TxGood p o h db pins next tx → TxGood p o (e ∷ h) db pins next tx
 tx-append p o h e db pins next txs tx w gives in-it good = record {
-    younger = good .younger; holds = good .holds; pinned = good .pinned; some = good .some; whole = good .whole;
-    free = λ pr given g is. ⊎-elim (λ now. gives given now .1 tx in-it is .0 pr) (λ old. good .free pr given old is) g;
-    inside = good .inside;
-    stack = stack-skip p o h e db (tx .frames) w (good .stack);
-    sheets = good .sheets;
-    right = λ given g is m a. right-skip p o h e m (given .question) (given .reading) w (⊎-elim (λ now. gives given now .1 tx in-it is .1 m a) (λ old. good .right given old is m a) g) }
+  younger = good .younger;
+  holds = good .holds;
+  pinned = good .pinned;
+  some = good .some;
+  whole = good .whole;
+  free = λ pr given g is. ⊎-elim (λ now. gives given now .1 tx in-it is .0 pr) (λ old. good .free pr given old is) g;
+  inside = good .inside;
+  stack = stack-skip p o h e db (tx .frames) w (good .stack);
+  sheets = good .sheets;
+  right = λ given g is m a. right-skip p o h e m (given .question) (given .reading) w (⊎-elim (λ now. gives given now .1 tx in-it is .1 m a) (λ old. good .right given old is m a) g);
+}
 
 pub core-append : (p : Rules) (o : Origin) (h : List Event) (e : Event) (hall : Hall) → isWrite (e .reply) ≡ false → GivesRight p o h e (hall .books .next) (hall .books .txs) → Core p o h hall → Core p o (e ∷ h) hall
 core-append p o h e hall w gives core = record {
-    latest = core .latest ∙ sym (latest-skip o h e w);
-    past = core .past;
-    stream = core .stream ∙ ap (kept-by (λ row. ltb (hall .books .delivered) (row .moment))) (sym (rows-skip o h e w));
-    sound = core .sound;
-    faithful = λ m t k hd. core .faithful m t k hd ∙ ap (λ (s : Records). s t k) (sym (records-skip o h e m w));
-    same = core .same; once = core .once; uses = core .uses; apart = core .apart;
-    entries = λ x a. claim-skip o h e (hall .db) _ _ w (core .entries x a);
-    txs = λ tx a. tx-append p o h e (hall .db) (hall .books .pins) (hall .books .next) (hall .books .txs) tx w gives a (core .txs tx a);
-    givens = λ given g. ⊎-elim (λ now. gives given now .0) (λ old. core .givens given old) g }
+  latest = core .latest ∙ sym (latest-skip o h e w);
+  past = core .past;
+  stream = core .stream ∙ ap (kept-by (λ row. ltb (hall .books .delivered) (row .moment))) (sym (rows-skip o h e w));
+  sound = core .sound;
+  faithful = λ m t k hd. core .faithful m t k hd ∙ ap (λ (s : Records). s t k) (sym (records-skip o h e m w));
+  same = core .same;
+  once = core .once;
+  uses = core .uses;
+  apart = core .apart;
+  entries = λ x a. claim-skip o h e (hall .db) _ _ w (core .entries x a);
+  txs = λ tx a. tx-append p o h e (hall .db) (hall .books .pins) (hall .books .next) (hall .books .txs) tx w gives a (core .txs tx a);
+  givens = λ given g. ⊎-elim (λ now. gives given now .0) (λ old. core .givens given old) g;
+}
 
 pub gives-nothing : (p : Rules) (o : Origin) (h : List Event) (e : Event) (next : ℕ) (txs : List Transaction) → e .given ≡ None → GivesRight p o h e next txs
 gives-nothing p o h e next txs none given is = absurd (none-given given (sym none ∙ is))
@@ -165,9 +185,17 @@ gives-nothing p o h e next txs none given is = absurd (none-given given (sym non
 tx-change : (p : Rules) (o : Origin) (h : List Event) (db db′ : Db) (pins pins′ : List Pin) (next : ℕ) (tx : Transaction) → db′ .latest ≡ db .latest → ((m : ℕ) → held db′ m ≡ true → held db m ≡ true)
     → ((m : ℕ) → among m (tx .holds) ≡ true → among m (moments pins′) ≡ true) → TxGood p o h db pins next tx → TxGood p o h db′ pins′ next tx
 tx-change p o h db db′ pins pins′ next tx same fewer keep good = record {
-    younger = good .younger; holds = good .holds; pinned = keep; some = good .some; whole = good .whole; free = good .free; inside = good .inside;
-    stack = λ i g is. claim-held o h db db′ (g .part) _ same fewer (good .stack i g is);
-    sheets = good .sheets; right = good .right }
+  younger = good .younger;
+  holds = good .holds;
+  pinned = keep;
+  some = good .some;
+  whole = good .whole;
+  free = good .free;
+  inside = good .inside;
+  stack = λ i g is. claim-held o h db db′ (g .part) _ same fewer (good .stack i g is);
+  sheets = good .sheets;
+  right = good .right;
+}
 
 pub core-change : (p : Rules) (o : Origin) (h : List Event) (hall : Hall) (db′ : Db) (pins′ : List Pin) (txs′ : List Transaction) → Core p o h hall
     → db′ .latest ≡ hall .db .latest → ((m : ℕ) → held db′ m ≡ true → held (hall .db) m ≡ true) → Sound db′
@@ -178,15 +206,19 @@ pub core-change : (p : Rules) (o : Origin) (h : List Event) (hall : Hall) (db′
     → ((t : Transaction) → Among t txs′ → TxGood p o h db′ pins′ (hall .books .next) t ⊎ Among t (hall .books .txs))
     → Core p o h (record { db = db′; entries = hall .entries; books = withTransactions pins′ txs′ (hall .books) })
 core-change p o h hall db′ pins′ txs′ core same fewer sound states pins once uses apart keep in-it = record {
-    latest = same ∙ core .latest;
-    past = let x = core .past in omega arith;
-    stream = core .stream;
-    sound = sound;
-    faithful = λ m t k hd. states m t k hd ∙ core .faithful m t k (fewer m hd);
-    same = pins; once = once; uses = uses; apart = apart;
-    entries = λ x a. claim-held o h (hall .db) db′ _ _ same fewer (core .entries x a);
-    txs = λ t a. ⊎-elim (λ good. good) (λ old. tx-change p o h (hall .db) db′ (hall .books .pins) pins′ (hall .books .next) t same fewer (λ m b. keep t old m b a) (core .txs t old)) (in-it t a);
-    givens = core .givens }
+  latest = same ∙ core .latest;
+  past = let x = core .past in omega arith;
+  stream = core .stream;
+  sound = sound;
+  faithful = λ m t k hd. states m t k hd ∙ core .faithful m t k (fewer m hd);
+  same = pins;
+  once = once;
+  uses = uses;
+  apart = apart;
+  entries = λ x a. claim-held o h (hall .db) db′ _ _ same fewer (core .entries x a);
+  txs = λ t a. ⊎-elim (λ good. good) (λ old. tx-change p o h (hall .db) db′ (hall .books .pins) pins′ (hall .books .next) t same fewer (λ m b. keep t old m b a) (core .txs t old)) (in-it t a);
+  givens = core .givens;
+}
 
 -- how many hold a pin
 abbrev pub bit : ℕ → Transaction → ℕ
@@ -200,16 +232,16 @@ holders-replaced m tx tx′ [] e = absurd (none-tx tx e)
 holders-replaced m tx tx′ (x ∷ txs) e =
     ⊎-elim
     (λ (is : eqb (tx′ .number) (x .number) ≡ true).
-        let same = some-tx x tx (sym (cond-true (eqb (tx′ .number) (x .number)) _ _ is) ∙ e) in
-        let a = ap (holders m) (cond-true (eqb (tx′ .number) (x .number)) (tx′ ∷ txs) (x ∷ replaced tx′ txs) is) in
-        let b = holders-cons m tx′ txs in let c = holders-cons m x txs in
-        let d = ap (bit m) same in
-        omega arith)
+    let same = some-tx x tx (sym (cond-true (eqb (tx′ .number) (x .number)) _ _ is) ∙ e) in
+    let a = ap (holders m) (cond-true (eqb (tx′ .number) (x .number)) (tx′ ∷ txs) (x ∷ replaced tx′ txs) is) in
+    let b = holders-cons m tx′ txs in let c = holders-cons m x txs in
+    let d = ap (bit m) same in
+    omega arith)
     (λ (is : eqb (tx′ .number) (x .number) ≡ false).
-        let ih = holders-replaced m tx tx′ txs (sym (cond-false (eqb (tx′ .number) (x .number)) _ _ is) ∙ e) in
-        let a = ap (holders m) (cond-false (eqb (tx′ .number) (x .number)) (tx′ ∷ txs) (x ∷ replaced tx′ txs) is) in
-        let b = holders-cons m x (replaced tx′ txs) in let c = holders-cons m x txs in
-        omega arith)
+    let ih = holders-replaced m tx tx′ txs (sym (cond-false (eqb (tx′ .number) (x .number)) _ _ is) ∙ e) in
+    let a = ap (holders m) (cond-false (eqb (tx′ .number) (x .number)) (tx′ ∷ txs) (x ∷ replaced tx′ txs) is) in
+    let b = holders-cons m x (replaced tx′ txs) in let c = holders-cons m x txs in
+    omega arith)
     (cases-bool (eqb (tx′ .number) (x .number)))
 
 pub holders-removed : (m n : ℕ) (tx : Transaction) (txs : List Transaction) → find n txs ≡ Some tx → holders m (removed n txs) + bit m tx ≡ holders m txs
@@ -217,16 +249,16 @@ holders-removed m n tx [] e = absurd (none-tx tx e)
 holders-removed m n tx (x ∷ txs) e =
     ⊎-elim
     (λ (is : eqb n (x .number) ≡ true).
-        let same = some-tx x tx (sym (cond-true (eqb n (x .number)) _ _ is) ∙ e) in
-        let a = ap (holders m) (cond-true (eqb n (x .number)) txs (x ∷ removed n txs) is) in
-        let c = holders-cons m x txs in
-        let d = ap (bit m) same in
-        omega arith)
+    let same = some-tx x tx (sym (cond-true (eqb n (x .number)) _ _ is) ∙ e) in
+    let a = ap (holders m) (cond-true (eqb n (x .number)) txs (x ∷ removed n txs) is) in
+    let c = holders-cons m x txs in
+    let d = ap (bit m) same in
+    omega arith)
     (λ (is : eqb n (x .number) ≡ false).
-        let ih = holders-removed m n tx txs (sym (cond-false (eqb n (x .number)) _ _ is) ∙ e) in
-        let a = ap (holders m) (cond-false (eqb n (x .number)) txs (x ∷ removed n txs) is) in
-        let b = holders-cons m x (removed n txs) in let c = holders-cons m x txs in
-        omega arith)
+    let ih = holders-removed m n tx txs (sym (cond-false (eqb n (x .number)) _ _ is) ∙ e) in
+    let a = ap (holders m) (cond-false (eqb n (x .number)) txs (x ∷ removed n txs) is) in
+    let b = holders-cons m x (removed n txs) in let c = holders-cons m x txs in
+    omega arith)
     (cases-bool (eqb n (x .number)))
 
 -- one transaction changes, and holds what it held
@@ -239,4 +271,3 @@ core-tx p o h hall tx tx′ core is same good =
     (ap distinct (numbers-replaced tx′ (hall .books .txs)) ∙ core .apart)
     (λ t a m b c. core .txs t a .pinned m b)
     (λ t a. ⊎-elim (λ e. inl (subst (TxGood p o h (hall .db) (hall .books .pins) (hall .books .next)) (sym e) good)) inr (in-replaced tx′ (hall .books .txs) t a))
-

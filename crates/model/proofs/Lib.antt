@@ -10,3 +10,4 @@ pub mod Stepped
 pub mod Turns
 pub mod Lives
 pub mod Consequences
+pub mod Hand

@@ -75,21 +75,22 @@ made-core p o db first size hall makes sound at records =
     let no-txs : hall .books .txs ≡ [] = ap (λ (b : Books). b .txs) books in
     let T : hall .books .delivered ≡ hall .db .latest = ap (λ (b : Books). b .delivered) books in
     record {
-        latest = makes .unpins .latest ∙ sym at;
-        past = omega arith;
-        stream = ap (λ (b : Books). b .rows) books;
-        sound = sound;
-        faithful = λ m t k hd. ⊎-elim
-            (λ e. let is = eqb-true m (hall .db .latest) e in
-                makes .unpins .states m t k hd ∙ ap (λ n. db .at n t k) (is ∙ makes .unpins .latest) ∙ sym (records t k))
-            (λ a. absurd (both-ways false refl (ap (among m) (sym (makes .unpins .pins)) ∙ a))) (or-cases _ _ hd);
-        same = λ m. ap (among m) (makes .unpins .pins) ∙ ap (λ ps. among m (moments ps)) (sym no-pins);
-        once = ap (λ ps. distinct (moments ps)) no-pins;
-        uses = λ pin a. absurd (subst (Among pin) no-pins a);
-        apart = ap (λ ts. distinct (numbers ts)) no-txs;
-        entries = λ e a. absurd (subst (Among e) (makes .cleared) a);
-        txs = λ t a. absurd (subst (Among t) no-txs a);
-        givens = λ given g. absurd g }
+      latest = makes .unpins .latest ∙ sym at;
+      past = omega arith;
+      stream = ap (λ (b : Books). b .rows) books;
+      sound = sound;
+      faithful = λ m t k hd. ⊎-elim
+          (λ e. let is = eqb-true m (hall .db .latest) e in
+          makes .unpins .states m t k hd ∙ ap (λ n. db .at n t k) (is ∙ makes .unpins .latest) ∙ sym (records t k))
+          (λ a. absurd (both-ways false refl (ap (among m) (sym (makes .unpins .pins)) ∙ a))) (or-cases _ _ hd);
+      same = λ m. ap (among m) (makes .unpins .pins) ∙ ap (λ ps. among m (moments ps)) (sym no-pins);
+      once = ap (λ ps. distinct (moments ps)) no-pins;
+      uses = λ pin a. absurd (subst (Among pin) no-pins a);
+      apart = ap (λ ts. distinct (numbers ts)) no-txs;
+      entries = λ e a. absurd (subst (Among e) (makes .cleared) a);
+      txs = λ t a. absurd (subst (Among t) no-txs a);
+      givens = λ given g. absurd g;
+    }
 
 -- the open transactions are counted
 pub record Counts (h : List Event) (txs : List Transaction) : Type 0 where
@@ -104,12 +105,13 @@ same-length one other e = sym (length-map one (λ (tx : Transaction). tx .number
 
 counts-same : (h : List Event) (e : Event) (txs txs′ : List Transaction) → Neutral (e .call) (e .reply) → numbers txs′ ≡ numbers txs → Counts h txs → Counts (e ∷ h) txs′
 counts-same h e txs txs′ neutral same c = record {
-    counted =
-        let a = cond-false (isBegin (e .reply)) (howMany isBegin h + 1) (howMany isBegin h) (neutral .0) in
-        let b = cond-false (isCommit (e .reply)) (howMany isCommit h + 1) (howMany isCommit h) (neutral .1) in
-        let d = cond-false (isAbort (e .reply)) (howMany isAbort h + 1) (howMany isAbort h) (neutral .2) in
-        let l = same-length txs′ txs same in let old = c .counted in omega arith;
-    exactly = λ n. ap (among n) same ∙ c .exactly n ∙ sym (cond-false (starts n (e .reply)) _ _ (neutral .3 n) ∙ cond-false (finishes n (e .call) (e .reply)) _ _ (neutral .4 n)) }
+  counted =
+      let a = cond-false (isBegin (e .reply)) (howMany isBegin h + 1) (howMany isBegin h) (neutral .0) in
+      let b = cond-false (isCommit (e .reply)) (howMany isCommit h + 1) (howMany isCommit h) (neutral .1) in
+      let d = cond-false (isAbort (e .reply)) (howMany isAbort h + 1) (howMany isAbort h) (neutral .2) in
+      let l = same-length txs′ txs same in let old = c .counted in omega arith;
+  exactly = λ n. ap (among n) same ∙ c .exactly n ∙ sym (cond-false (starts n (e .reply)) _ _ (neutral .3 n) ∙ cond-false (finishes n (e .call) (e .reply)) _ _ (neutral .4 n));
+}
 
 refused-neutral : (call : Call) (fault : _) → Neutral call (Refused fault)
 refused-neutral call fault = (refl, refl, refl, λ n. refl, λ n. refl)
@@ -134,33 +136,35 @@ counts-end h e n tx txs ends no-begin one no-start fin apart is c =
     let l′ : length (removed (tx .number) txs) ≡ length (without (tx .number) (numbers txs)) = sym (length-map (removed (tx .number) txs) (λ (t : Transaction). t .number)) ∙ ap length same in
     let l = length-map txs (λ (t : Transaction). t .number) in
     record {
-        counted =
-            let a = cond-false (isBegin (e .reply)) (howMany isBegin h + 1) (howMany isBegin h) no-begin in
-            let old = c .counted in
-            ⊎-elim
-            (λ (x : isCommit (e .reply) ≡ true).
-                let y : isAbort (e .reply) ≡ false = ap (λ b. b && isAbort (e .reply)) (sym x) ∙ one in
-                let b = cond-true (isCommit (e .reply)) (howMany isCommit h + 1) (howMany isCommit h) x in
-                let d = cond-false (isAbort (e .reply)) (howMany isAbort h + 1) (howMany isAbort h) y in omega arith)
-            (λ (x : isCommit (e .reply) ≡ false).
-                let y : isAbort (e .reply) ≡ true = sym (cond-false (isCommit (e .reply)) true (isAbort (e .reply)) x) ∙ ends in
-                let b = cond-false (isCommit (e .reply)) (howMany isCommit h + 1) (howMany isCommit h) x in
-                let d = cond-true (isAbort (e .reply)) (howMany isAbort h + 1) (howMany isAbort h) y in omega arith)
-            (cases-bool (isCommit (e .reply)));
-        exactly = λ k.
-            ap (among k) same ∙ among-without k (tx .number) (numbers txs) ∙ ap (λ b. b && not (eqb k (tx .number))) (c .exactly k) ∙ ap (λ j. isOpenIn k h && not (eqb k j)) (own .1)
-            ∙ shut (isOpenIn k h) (eqb k n) ∙ sym (cond-false (starts k (e .reply)) _ _ (no-start k) ∙ ap (λ b. cond b false (isOpenIn k h)) (fin k)) }
+      counted =
+          let a = cond-false (isBegin (e .reply)) (howMany isBegin h + 1) (howMany isBegin h) no-begin in
+          let old = c .counted in
+          ⊎-elim
+          (λ (x : isCommit (e .reply) ≡ true).
+          let y : isAbort (e .reply) ≡ false = ap (λ b. b && isAbort (e .reply)) (sym x) ∙ one in
+          let b = cond-true (isCommit (e .reply)) (howMany isCommit h + 1) (howMany isCommit h) x in
+          let d = cond-false (isAbort (e .reply)) (howMany isAbort h + 1) (howMany isAbort h) y in omega arith)
+          (λ (x : isCommit (e .reply) ≡ false).
+          let y : isAbort (e .reply) ≡ true = sym (cond-false (isCommit (e .reply)) true (isAbort (e .reply)) x) ∙ ends in
+          let b = cond-false (isCommit (e .reply)) (howMany isCommit h + 1) (howMany isCommit h) x in
+          let d = cond-true (isAbort (e .reply)) (howMany isAbort h + 1) (howMany isAbort h) y in omega arith)
+          (cases-bool (isCommit (e .reply)));
+      exactly = λ k.
+          ap (among k) same ∙ among-without k (tx .number) (numbers txs) ∙ ap (λ b. b && not (eqb k (tx .number))) (c .exactly k) ∙ ap (λ j. isOpenIn k h && not (eqb k j)) (own .1)
+          ∙ shut (isOpenIn k h) (eqb k n) ∙ sym (cond-false (starts k (e .reply)) _ _ (no-start k) ∙ ap (λ b. cond b false (isOpenIn k h)) (fin k));
+    }
 
 counts-begin : (h : List Event) (e : Event) (n : ℕ) (tx : Transaction) (txs : List Transaction) → isBegin (e .reply) ≡ true → isCommit (e .reply) ≡ false → isAbort (e .reply) ≡ false → ((k : ℕ) → starts k (e .reply) ≡ eqb k n) → ((k : ℕ) → finishes k (e .call) (e .reply) ≡ false) → tx .number ≡ n → Counts h txs → Counts (e ∷ h) (tx ∷ txs)
 counts-begin h e n tx txs begins no-commit no-abort start no-end is c = record {
-    counted =
-        let a = cond-true (isBegin (e .reply)) (howMany isBegin h + 1) (howMany isBegin h) begins in
-        let b = cond-false (isCommit (e .reply)) (howMany isCommit h + 1) (howMany isCommit h) no-commit in
-        let d = cond-false (isAbort (e .reply)) (howMany isAbort h + 1) (howMany isAbort h) no-abort in
-        let old = c .counted in omega arith;
-    exactly = λ k.
-        ap (λ j. eqb k j || among k (numbers txs)) is ∙ ap (λ b. eqb k n || b) (c .exactly k) ∙ either (eqb k n) (isOpenIn k h)
-        ∙ sym (ap (λ b. cond b true (cond (finishes k (e .call) (e .reply)) false (isOpenIn k h))) (start k) ∙ ap (λ b. cond (eqb k n) true (cond b false (isOpenIn k h))) (no-end k)) }
+  counted =
+      let a = cond-true (isBegin (e .reply)) (howMany isBegin h + 1) (howMany isBegin h) begins in
+      let b = cond-false (isCommit (e .reply)) (howMany isCommit h + 1) (howMany isCommit h) no-commit in
+      let d = cond-false (isAbort (e .reply)) (howMany isAbort h + 1) (howMany isAbort h) no-abort in
+      let old = c .counted in omega arith;
+  exactly = λ k.
+      ap (λ j. eqb k j || among k (numbers txs)) is ∙ ap (λ b. eqb k n || b) (c .exactly k) ∙ either (eqb k n) (isOpenIn k h)
+      ∙ sym (ap (λ b. cond b true (cond (finishes k (e .call) (e .reply)) false (isOpenIn k h))) (start k) ∙ ap (λ b. cond (eqb k n) true (cond b false (isOpenIn k h))) (no-end k));
+}
   where
     either : (a b : Bool) → (a || b) ≡ cond a true b
     either true b = refl
@@ -193,23 +197,26 @@ does-counts p h hall hall′ call changes reply given apart (calls.Does.delivere
 does-counts p h hall hall′ call changes reply given apart (calls.Does.swept now age db entries unpins drops) c = counts-same h _ (hall .books .txs) (hall .books .txs) (refl, refl, refl, λ n. refl, λ n. refl) refl c
 
 pub carried : (p : Rules) (o : Origin) (h : List Event) (hall : Hall) → Lives p o h hall → Core p o h hall × Counts h (hall .books .txs)
-carried p o h hall (traces.Lives.made db first size hall₀ makes sound at records) =
-    (made-core p o db first size hall₀ makes sound at records,
-     let none : hall₀ .books .txs ≡ [] = ap (λ (b : Books). b .txs) (makes .books) in
-     record { counted = let l = ap length none in omega arith; exactly = λ n. ap (λ ts. among n (numbers ts)) none })
+carried p o h hall (traces.Lives.made db first size hall₀ makes sound at records) = (
+  made-core p o db first size hall₀ makes sound at records,
+  let none : hall₀ .books .txs ≡ [] = ap (λ (b : Books). b .txs) (makes .books) in
+      record { counted = let l = ap length none in omega arith; exactly = λ n. ap (λ ts. among n (numbers ts)) none },
+)
 carried p o h hall (traces.Lives.then trace before after event lives does sound) =
-    let old = carried p o trace before lives in
-    (does-core p o trace before after (event .call) (event .changes) (event .reply) (event .given) (old .0) sound does,
-     does-counts p trace before after (event .call) (event .changes) (event .reply) (event .given) (old .0 .apart) does (old .1))
+    let old = carried p o trace before lives in (
+      does-core p o trace before after (event .call) (event .changes) (event .reply) (event .given) (old .0) sound does,
+      does-counts p trace before after (event .call) (event .changes) (event .reply) (event .given) (old .0 .apart) does (old .1),
+    )
 
 pub law-stands : Law-stands
 law-stands rules o trace hall lives =
     let all = carried rules o trace hall lives in
     let core = all .0 in
     record {
-        readings = λ tx a given g is m b. core .txs tx a .right given g is m b;
-        sets = λ tx a. ⊎-elim inl (λ shut. inr (core .txs tx a .some shut)) (cases-bool (tx .present));
-        pinned = λ tx a m b. core .same m ∙ core .txs tx a .pinned m (core .txs tx a .holds m b);
-        counted = all .1 .counted;
-        exactly = all .1 .exactly;
-        uses = core .uses }
+      readings = λ tx a given g is m b. core .txs tx a .right given g is m b;
+      sets = λ tx a. ⊎-elim inl (λ shut. inr (core .txs tx a .some shut)) (cases-bool (tx .present));
+      pinned = λ tx a m b. core .same m ∙ core .txs tx a .pinned m (core .txs tx a .holds m b);
+      counted = all .1 .counted;
+      exactly = all .1 .exactly;
+      uses = core .uses;
+    }

@@ -66,10 +66,11 @@ rests-to (Open t) tags l k h r = ⊎-elim (λ a. inl (omega arith)) inr r
 
 pub claim-held : (o : Origin) (h : List Event) (db db′ : Db) (part : Part) (P : Records → Type 0) → db′ .latest ≡ db .latest → ((m : ℕ) → held db′ m ≡ true → held db m ≡ true) → Claim o h db part P → Claim o h db′ part P
 claim-held o h db db′ part P same fewer c = record {
-    within = within-to (part .interval .until) (db .latest) (db′ .latest) (omega arith) (c .within);
-    begins = let b = c .begins in omega arith;
-    rests = rests-to (part .interval .until) (part .tags) (db .latest) (db′ .latest) (omega arith) (c .rests);
-    holds = λ m hd l. c .holds m (fewer m hd) l }
+  within = within-to (part .interval .until) (db .latest) (db′ .latest) (omega arith) (c .within);
+  begins = let b = c .begins in omega arith;
+  rests = rests-to (part .interval .until) (part .tags) (db .latest) (db′ .latest) (omega arith) (c .rests);
+  holds = λ m hd l. c .holds m (fewer m hd) l;
+}
 
 -- the records of the latest moment and of those after it
 pub records-late : (o : Origin) (h : List Event) (m : ℕ) → latestOf o h ≤ m → recordsAt o h m ≡ recordsAt o h (latestOf o h)
@@ -77,14 +78,14 @@ records-late o [] m l = refl
 records-late o (e ∷ h) m l =
     ⊎-elim
     (λ (w : isWrite (e .reply) ≡ true).
-        let n = latestOf o h in
-        let top : latestOf o (e ∷ h) ≡ n + 1 = cond-true (isWrite (e .reply)) _ _ w in
-        let at : (k : ℕ) → n + 1 ≤ k → recordsAt o (e ∷ h) k ≡ changed (e .changes) (recordsAt o h n) =
-            λ k le. ap (λ b. cond (b && leb (n + 1) k) (changed (e .changes) (recordsAt o h k)) (recordsAt o h k)) w ∙ cond-true (leb (n + 1) k) _ _ (le-leb (n + 1) k le) ∙ ap (changed (e .changes)) (records-late o h k (omega arith)) in
-        at m (omega arith) ∙ sym (at (latestOf o (e ∷ h)) (omega arith)))
+    let n = latestOf o h in
+    let top : latestOf o (e ∷ h) ≡ n + 1 = cond-true (isWrite (e .reply)) _ _ w in
+    let at : (k : ℕ) → n + 1 ≤ k → recordsAt o (e ∷ h) k ≡ changed (e .changes) (recordsAt o h n) =
+    λ k le. ap (λ b. cond (b && leb (n + 1) k) (changed (e .changes) (recordsAt o h k)) (recordsAt o h k)) w ∙ cond-true (leb (n + 1) k) _ _ (le-leb (n + 1) k le) ∙ ap (changed (e .changes)) (records-late o h k (omega arith)) in
+    at m (omega arith) ∙ sym (at (latestOf o (e ∷ h)) (omega arith)))
     (λ (w : isWrite (e .reply) ≡ false).
-        let top = latest-skip o h e w in
-        records-skip o h e m w ∙ records-late o h m (omega arith) ∙ ap (recordsAt o h) (sym top) ∙ sym (records-skip o h e (latestOf o (e ∷ h)) w))
+    let top = latest-skip o h e w in
+    records-skip o h e m w ∙ records-late o h m (omega arith) ∙ ap (recordsAt o h) (sym top) ∙ sym (records-skip o h e (latestOf o (e ∷ h)) w))
     (cases-bool (isWrite (e .reply)))
 
 -- a write
@@ -124,8 +125,8 @@ put-agree c tag s no-touch t k e =
     let at : RecordId = record { table = t; key = k } in
     ⊎-elim
     (λ (is : isId (changeId c) at ≡ true).
-        let same = ap oneTag (same-id (changeId c) at is) in
-        absurd (both-ways (touches (changeTag c) tag) no-touch (ap (λ x. touches x tag) same ∙ touch-sym (oneTag at) tag ∙ e)))
+    let same = ap oneTag (same-id (changeId c) at is) in
+    absurd (both-ways (touches (changeTag c) tag) no-touch (ap (λ x. touches x tag) same ∙ touch-sym (oneTag at) tag ∙ e)))
     (λ (is : isId (changeId c) at ≡ false). sym (cond-false (isId (changeId c) at) _ _ is))
     (cases-bool (isId (changeId c) at))
 
@@ -158,9 +159,9 @@ claimAt-new : (o : Origin) (h : List Event) (e : Event) (tags : List Tag) (u : U
 claimAt-new o h e tags (Ended end) l P w same wi re c = λ less. absurd (omega arith)
 claimAt-new o h e tags (Open t) l P w same wi re c = λ un z agree.
     let none : (d : Change) → Among d (e .changes) → touched (changeTag d) tags ≡ false =
-        λ d a. ⊎-elim
-            (λ le. un (record { moment = latestOf o h + 1; tag = changeTag d }) (subst (Among (record { moment = latestOf o h + 1; tag = changeTag d })) (sym (rows-new o h e w)) (among-right _ (rowsOf o h) (rowsOfWrite (latestOf o h + 1) (e .changes)) (row-of (latestOf o h + 1) (e .changes) d a))) (omega arith) (omega arith))
-            (λ empty. ap (touched (changeTag d)) empty) re in
+    λ d a. ⊎-elim
+    (λ le. un (record { moment = latestOf o h + 1; tag = changeTag d }) (subst (Among (record { moment = latestOf o h + 1; tag = changeTag d })) (sym (rows-new o h e w)) (among-right _ (rowsOf o h) (rowsOfWrite (latestOf o h + 1) (e .changes)) (row-of (latestOf o h + 1) (e .changes) d a))) (omega arith) (omega arith))
+    (λ empty. ap (touched (changeTag d)) empty) re in
     let start = subst (λ k. AgreeAll tags (recordsAt o (e ∷ h) (k + 1)) z) same agree in
     let moved = subst (λ s. AgreeAll tags s z) (records-new o h e w) start in
     let whole = agree-trans tags (recordsAt o h (latestOf o h)) (changed (e .changes) (recordsAt o h (latestOf o h))) z (agree-changes (e .changes) tags (recordsAt o h (latestOf o h)) none) moved in
@@ -172,14 +173,15 @@ claimAt-old o h e tags (Open t) m P w l c = λ un z a. c (untouched-before o h e
 
 pub claim-write : (o : Origin) (h : List Event) (e : Event) (db db′ : Db) (n : ℕ) (part : Part) (P : Records → Type 0) → isWrite (e .reply) ≡ true → db .latest ≡ latestOf o h → Sound db → Written db (e .changes) n db′ → Claim o h db part P → Claim o (e ∷ h) db′ part P
 claim-write o h e db db′ n part P w same sound wrote c = record {
-    within = within-to (part .interval .until) (db .latest) (db′ .latest) (omega (arith, wrote .latest)) (c .within);
-    begins = let b = c .begins in omega (arith, wrote .latest);
-    rests = rests-to (part .interval .until) (part .tags) (db .latest) (db′ .latest) (omega (arith, wrote .latest)) (c .rests);
-    holds = λ m hd l.
-        ⊎-elim
-        (λ is. let top : m ≡ db .latest + 1 = eqb-true m (db′ .latest) is ∙ wrote .latest in
-            subst (λ k. ClaimAt o (e ∷ h) (part .tags) (part .interval .until) k P) (sym top)
-            (claimAt-new o h e (part .tags) (part .interval .until) (db .latest) P w same (c .within) (c .rests) (c .holds (db .latest) (or-left _ _ (eq-eqb (db .latest) (db .latest) refl)) (c .begins))))
-        (λ pin. let old = sym (wrote .pins m) ∙ pin in
-            claimAt-old o h e (part .tags) (part .interval .until) m P w (let k = sound .past m old in omega arith) (c .holds m (or-right _ _ old) l))
-        (or-cases _ _ hd) }
+  within = within-to (part .interval .until) (db .latest) (db′ .latest) (omega (arith, wrote .latest)) (c .within);
+  begins = let b = c .begins in omega (arith, wrote .latest);
+  rests = rests-to (part .interval .until) (part .tags) (db .latest) (db′ .latest) (omega (arith, wrote .latest)) (c .rests);
+  holds = λ m hd l.
+      ⊎-elim
+      (λ is. let top : m ≡ db .latest + 1 = eqb-true m (db′ .latest) is ∙ wrote .latest in
+      subst (λ k. ClaimAt o (e ∷ h) (part .tags) (part .interval .until) k P) (sym top)
+      (claimAt-new o h e (part .tags) (part .interval .until) (db .latest) P w same (c .within) (c .rests) (c .holds (db .latest) (or-left _ _ (eq-eqb (db .latest) (db .latest) refl)) (c .begins))))
+      (λ pin. let old = sym (wrote .pins m) ∙ pin in
+      claimAt-old o h e (part .tags) (part .interval .until) m P w (let k = sound .past m old in omega arith) (c .holds m (or-right _ _ old) l))
+      (or-cases _ _ hd);
+}

@@ -62,11 +62,12 @@ answer-claim o h db m k ans sound faithful hd answers =
     let past = held-past db m sound hd in
     let from = leb-true (ans .interval .first) m (and-parts _ _ (answers .inside) .0) in
     record {
-        within = answer-within db (ans .interval .until) (answers .known);
-        begins = omega arith;
-        rests = answer-rests db (ans .interval .until) (ans .tag ∷ []) (answers .known);
-        holds = λ n hn l. answer-at o h db (ans .interval .first) (ans .interval .until) n k (ans .reading) (ans .tag) (answers .bears) (answers .known) (held-past db n sound hn) l
-            (λ inside. faithful-reads o h db n k (ans .reading) faithful hn (answers .same n hn inside)) }
+      within = answer-within db (ans .interval .until) (answers .known);
+      begins = omega arith;
+      rests = answer-rests db (ans .interval .until) (ans .tag ∷ []) (answers .known);
+      holds = λ n hn l. answer-at o h db (ans .interval .first) (ans .interval .until) n k (ans .reading) (ans .tag) (answers .bears) (answers .known) (held-past db n sound hn) l
+          (λ inside. faithful-reads o h db n k (ans .reading) faithful hn (answers .same n hn inside));
+    }
 
 -- an entry is known through the later of T and its first moment
 abbrev pub entryPart : ℕ → Entry → Part
@@ -107,13 +108,21 @@ settle-part o h db T first (Ended e) tags P past forward c = record { within = c
 settle-part o h db T first (Open t) tags P past forward c =
     ⊎-elim
     (λ (is : leb T t ≡ true). subst (λ b. Claim o h db (record { interval = record { first = first; until = throughT (max T first) (cond b (Open t) (Ended (t + 1))) }; tags = bearing (cond b (Open t) (Ended (t + 1))) tags }) P) (sym is)
-        (let late = leb-true T t is in let from = forward t refl in let b = c .begins in
-        record { within = tt; begins = c .begins; rests = inl (omega arith);
-            holds = λ m hd l un z agree. c .holds m hd l (λ row in-it a k. un row in-it (omega arith) k) z agree }))
+    (let late = leb-true T t is in let from = forward t refl in let b = c .begins in
+    record {
+      within = tt;
+      begins = c .begins;
+      rests = inl (omega arith);
+      holds = λ m hd l un z agree. c .holds m hd l (λ row in-it a k. un row in-it (omega arith) k) z agree;
+    }))
     (λ (is : leb T t ≡ false). subst (λ b. Claim o h db (record { interval = record { first = first; until = throughT (max T first) (cond b (Open t) (Ended (t + 1))) }; tags = bearing (cond b (Open t) (Ended (t + 1))) tags }) P) (sym is)
-        (let late = leb-false T t is in
-        record { within = omega arith; begins = c .begins; rests = tt;
-            holds = λ m hd l less. c .holds m hd l (λ row in-it a k. absurd (omega arith)) (recordsAt o h m) (agree-self tags (recordsAt o h m)) }))
+    (let late = leb-false T t is in
+    record {
+      within = omega arith;
+      begins = c .begins;
+      rests = tt;
+      holds = λ m hd l less. c .holds m hd l (λ row in-it a k. absurd (omega arith)) (recordsAt o h m) (agree-self tags (recordsAt o h m));
+    }))
     (cases-bool (leb T t))
 
 some-one : (one other : Entry) → Some one ≡ Some other → one ≡ other
@@ -127,15 +136,15 @@ pub enter-claim : (o : Origin) (h : List Event) (db : Db) (T : ℕ) (part : Part
 enter-claim o h db T part key reading e P past forward is claim =
     ⊎-elim
     (λ (ok : accepts key (settled T part .interval) (settled T part .tags) ≡ true).
-        let new : Entry = record { key = key; reading = reading; interval = settled T part .interval; tags = packed (settled T part .tags) } in
-        let few = leb-true (length (settled T part .tags)) 8 (and-parts (leb (length (settled T part .tags)) 8) (newTo [] (settled T part .tags)) (and-parts (hasMoment (settled T part .interval)) (fewTags (settled T part .tags)) (and-parts (ltb (key .sheet) 255) (hasMoment (settled T part .interval) && fewTags (settled T part .tags)) ok .1) .1) .0) in
-        let own = tagsOf-packed (settled T part .tags) few in
-        let same : new ≡ e = some-one new e (sym (cond-true (accepts key (settled T part .interval) (settled T part .tags)) _ _ ok) ∙ is) in
-        let settled-claim = settle-part o h db T (part .interval .first) (part .interval .until) (part .tags) P past forward claim in
-        let make : List Tag → Part = λ tags. record { interval = record { first = part .interval .first; until = throughT (max T (part .interval .first)) (settled T part .interval .until) }; tags = tags } in
-        (subst (λ x. Claim o h db (entryPart T x) P) same (subst (λ x. Claim o h db x P) (ap make (sym own)) settled-claim), ap (λ x. x .key) (sym same), ap (λ x. x .reading) (sym same)))
+    let new : Entry = record { key = key; reading = reading; interval = settled T part .interval; tags = packed (settled T part .tags) } in
+    let few = leb-true (length (settled T part .tags)) 8 (and-parts (leb (length (settled T part .tags)) 8) (newTo [] (settled T part .tags)) (and-parts (hasMoment (settled T part .interval)) (fewTags (settled T part .tags)) (and-parts (ltb (key .sheet) 255) (hasMoment (settled T part .interval) && fewTags (settled T part .tags)) ok .1) .1) .0) in
+    let own = tagsOf-packed (settled T part .tags) few in
+    let same : new ≡ e = some-one new e (sym (cond-true (accepts key (settled T part .interval) (settled T part .tags)) _ _ ok) ∙ is) in
+    let settled-claim = settle-part o h db T (part .interval .first) (part .interval .until) (part .tags) P past forward claim in
+    let make : List Tag → Part = λ tags. record { interval = record { first = part .interval .first; until = throughT (max T (part .interval .first)) (settled T part .interval .until) }; tags = tags } in
+    (subst (λ x. Claim o h db (entryPart T x) P) same (subst (λ x. Claim o h db x P) (ap make (sym own)) settled-claim), ap (λ x. x .key) (sym same), ap (λ x. x .reading) (sym same)))
     (λ (ok : accepts key (settled T part .interval) (settled T part .tags) ≡ false).
-        absurd (none-some e (sym (cond-false (accepts key (settled T part .interval) (settled T part .tags)) _ _ ok) ∙ is)))
+    absurd (none-some e (sym (cond-false (accepts key (settled T part .interval) (settled T part .tags)) _ _ ok) ∙ is)))
     (cases-bool (accepts key (settled T part .interval) (settled T part .tags)))
 
 -- a delivery: an entry that a row touches ends at the new message's moment, the others go on
@@ -159,13 +168,13 @@ comes-to [] n e = stays (λ row a. absurd a)
 comes-to (row ∷ rows) n e =
     ⊎-elim
     (λ (c : closes (row .tag) n e ≡ true).
-        let here : closed (row .tag) n e ≡ endedAt n e = cond-true (closes (row .tag) n e) _ _ c in
-        let parts = and-parts (isOpen (e .interval .until)) (ltb (e .interval .first) n && touched (row .tag) (tagsOf (e .tags))) (and-parts (isEnd n) (isOpen (e .interval .until) && (ltb (e .interval .first) n && touched (row .tag) (tagsOf (e .tags)))) c .1) in
-        let first = ltb-true (e .interval .first) n (and-parts (ltb (e .interval .first) n) (touched (row .tag) (tagsOf (e .tags))) (parts .1) .0) in
-        subst (Comes-to (row ∷ rows) n e) (sym (ap (closedAll rows n) here ∙ ended-stays rows n (endedAt n e) refl)) (ends (parts .0) first))
+    let here : closed (row .tag) n e ≡ endedAt n e = cond-true (closes (row .tag) n e) _ _ c in
+    let parts = and-parts (isOpen (e .interval .until)) (ltb (e .interval .first) n && touched (row .tag) (tagsOf (e .tags))) (and-parts (isEnd n) (isOpen (e .interval .until) && (ltb (e .interval .first) n && touched (row .tag) (tagsOf (e .tags)))) c .1) in
+    let first = ltb-true (e .interval .first) n (and-parts (ltb (e .interval .first) n) (touched (row .tag) (tagsOf (e .tags))) (parts .1) .0) in
+    subst (Comes-to (row ∷ rows) n e) (sym (ap (closedAll rows n) here ∙ ended-stays rows n (endedAt n e) refl)) (ends (parts .0) first))
     (λ (c : closes (row .tag) n e ≡ false).
-        let here : closed (row .tag) n e ≡ e = cond-false (closes (row .tag) n e) _ _ c in
-        subst (Comes-to (row ∷ rows) n e) (sym (ap (closedAll rows n) here)) (widened row rows n e (closedAll rows n e) c (comes-to rows n e)))
+    let here : closed (row .tag) n e ≡ e = cond-false (closes (row .tag) n e) _ _ c in
+    subst (Comes-to (row ∷ rows) n e) (sym (ap (closedAll rows n) here)) (widened row rows n e (closedAll rows n e) c (comes-to rows n e)))
     (cases-bool (closes (row .tag) n e))
   where
     widened : (row : Row) (rows : List Row) (n : ℕ) (e f : Entry) → closes (row .tag) n e ≡ false → Comes-to rows n e f → Comes-to (row ∷ rows) n e f
@@ -179,8 +188,11 @@ open-here o h (Open t) S m tags P op l c = c (λ row in-it a k. absurd (omega ar
 
 entry-ends : (o : Origin) (h : List Event) (db : Db) (T : ℕ) (e : Entry) (P : Records → Type 0) → T + 1 ≤ db .latest → isOpen (e .interval .until) ≡ true → e .interval .first < T + 1 → Claim o h db (entryPart T e) P → Claim o h db (entryPart (T + 1) (endedAt (T + 1) e)) P
 entry-ends o h db T e P past op first c = record {
-    within = omega arith; begins = c .begins; rests = tt;
-    holds = λ m hd l less. open-here o h (e .interval .until) (max T (e .interval .first)) m (tagsOf (e .tags)) P op (omega arith) (c .holds m hd l) }
+  within = omega arith;
+  begins = c .begins;
+  rests = tt;
+  holds = λ m hd l less. open-here o h (e .interval .until) (max T (e .interval .first)) m (tagsOf (e .tags)) P op (omega arith) (c .holds m hd l);
+}
 
 abbrev Spared : Origin → List Event → ℕ → Entry → Type 0
 Spared o h n e = (row : Row) → Among row (rowsOf o h) → row .moment ≡ n → closes (row .tag) n e ≡ false
@@ -196,11 +208,11 @@ goes-at : (o : Origin) (h : List Event) (T m : ℕ) (e : Entry) (u : Until) (P :
 goes-at o h T m e (Ended x) P is top spared c = c
 goes-at o h T m e (Open t) P is top spared c = λ un z agree.
     c (λ row in-it a k. ⊎-elim
-        (λ later. un row in-it later k)
-        (λ at. let f = e .interval .first in
-            let now : row .moment ≡ T + 1 = omega arith in
-            not-touched (T + 1) (row .tag) e top (ap isOpen is) (omega arith) (spared row in-it now))
-        (cases-lt (max (T + 1) (e .interval .first)) (row .moment))) z agree
+    (λ later. un row in-it later k)
+    (λ at. let f = e .interval .first in
+    let now : row .moment ≡ T + 1 = omega arith in
+    not-touched (T + 1) (row .tag) e top (ap isOpen is) (omega arith) (spared row in-it now))
+    (cases-lt (max (T + 1) (e .interval .first)) (row .moment))) z agree
 
 goes-rests : (T first l : ℕ) (u : Until) (tags : List Tag) → T + 1 ≤ l → first ≤ l → Rests (throughT (max (T + 1) first) u) tags l
 goes-rests T first l (Ended x) tags a b = tt
@@ -212,10 +224,11 @@ goes-within T S first l (Open t) w = tt
 
 entry-goes : (o : Origin) (h : List Event) (db : Db) (T : ℕ) (e : Entry) (P : Records → Type 0) → T + 1 ≤ db .latest → db .latest ≤ highest → Spared o h (T + 1) e → Claim o h db (entryPart T e) P → Claim o h db (entryPart (T + 1) e) P
 entry-goes o h db T e P past top spared c = record {
-    within = goes-within (max T (e .interval .first)) (max (T + 1) (e .interval .first)) (e .interval .first) (db .latest) (e .interval .until) (c .within);
-    begins = c .begins;
-    rests = goes-rests T (e .interval .first) (db .latest) (e .interval .until) (tagsOf (e .tags)) past (c .begins);
-    holds = λ m hd l. goes-at o h T m e (e .interval .until) P refl (omega arith) spared (c .holds m hd l) }
+  within = goes-within (max T (e .interval .first)) (max (T + 1) (e .interval .first)) (e .interval .first) (db .latest) (e .interval .until) (c .within);
+  begins = c .begins;
+  rests = goes-rests T (e .interval .first) (db .latest) (e .interval .until) (tagsOf (e .tags)) past (c .begins);
+  holds = λ m hd l. goes-at o h T m e (e .interval .until) P refl (omega arith) spared (c .holds m hd l);
+}
 
 pub deliver-claim : (o : Origin) (h : List Event) (db : Db) (T : ℕ) (rows : List Row) (e f : Entry) (P : Records → Type 0) → T + 1 ≤ db .latest → db .latest ≤ highest → ((row : Row) → Among row (rowsOf o h) → row .moment ≡ T + 1 → Among row rows) → Comes-to rows (T + 1) e f → Claim o h db (entryPart T e) P → Claim o h db (entryPart (T + 1) f) P
 deliver-claim o h db T rows e f P past top all (stays none) c = entry-goes o h db T e P past top (λ row in-it is. none row (all row in-it is)) c

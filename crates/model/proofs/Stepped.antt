@@ -71,7 +71,7 @@ pub step-query-core : (p : Rules) (o : Origin) (h : List Event) (number now m : 
     → find number (hall .books .txs) ≡ Some tx → tx .frames ≡ frame ∷ frames → lastAnswer frame ≡ false → p .turn (frame .point) .ask ≡ Asked query → knownTable (tableOf query) ≡ true
     → Picks (hall .db) (hall .books .pins) tx now m db pins tx′ → Asks db m query (Ok answer)
     → Core p o (record { call = Step number now; changes = []; reply = Open; given = Some (record { number = number; question = ofQuery query; reading = answer .reading }) } ∷ h)
-      (record { db = db; entries = hall .entries; books = withTx (narrowed (answerPart answer) (withFrames (went p frame (answer .reading) ∷ frames) tx′)) pins (hall .books) })
+    (record { db = db; entries = hall .entries; books = withTx (narrowed (answerPart answer) (withFrames (went p frame (answer .reading) ∷ frames) tx′)) pins (hall .books) })
 step-query-core p o h number now m query hall tx tx′ frame frames db pins answer core sound is fr last asked known picks asks =
     let at = found-at number (hall .books .txs) tx is in
     let pick = core-pick p o h hall tx tx′ now m db pins core at sound picks in
@@ -87,11 +87,11 @@ step-query-core p o h number now m query hall tx tx′ frame frames db pins answ
     let inside : (m : ℕ) → among m (tx′ .set) ≡ true → (i : ℕ) (g : Frame) → nth i (frame ∷ frames) ≡ Some g → contains (g .part .interval) m ≡ true = λ n a i g x. good .inside n a i g (ap (nth i) fr′ ∙ x) in
     let sheets : (i : ℕ) (g : Frame) → nth i (frame ∷ frames) ≡ Some g → (g .point .sheet < p .sheets) × (g .answers < 32) = λ i g x. good .sheets i g (ap (nth i) fr′ ∙ x) in
     let out = core-given p o h e hall₁ tx′ (answerPart answer) (f′ ∷ frames) (λ z. Reads z query (answer .reading)) m (record { number = number; question = ofQuery query; reading = answer .reading })
-        (pick .core) find₁ claim (pick .chosen) (asks .1 .inside)
-        (stack-given p o h db (answerPart answer) (λ z. Reads z query (answer .reading)) frame f′ frames refl refl refl (λ z r c. queried (frame .answers) (frame .point) query (answer .reading) c asked known r) claim stack)
-        (λ n a. part-same (λ part. contains (part .interval) n ≡ true) frame f′ frames refl (inside n a))
-        (sheet-same p frame f′ frames (sheets 0 frame refl .0, again frame last) sheets)
-        refl refl (sym (found number (hall .books .txs) tx is .1) ∙ sym (pick .number)) (λ z x. x) in
+    (pick .core) find₁ claim (pick .chosen) (asks .1 .inside)
+    (stack-given p o h db (answerPart answer) (λ z. Reads z query (answer .reading)) frame f′ frames refl refl refl (λ z r c. queried (frame .answers) (frame .point) query (answer .reading) c asked known r) claim stack)
+    (λ n a. part-same (λ part. contains (part .interval) n ≡ true) frame f′ frames refl (inside n a))
+    (sheet-same p frame f′ frames (sheets 0 frame refl .0, again frame last) sheets)
+    refl refl (sym (found number (hall .books .txs) tx is .1) ∙ sym (pick .number)) (λ z x. x) in
     subst (λ (ts : List Transaction). Core p o (e ∷ h) (record { db = db; entries = hall .entries; books = withTransactions pins ts (hall .books) }))
     (replaced-again (narrowed (answerPart answer) (withFrames (f′ ∷ frames) tx′)) tx′ (hall .books .txs) refl) out
 
@@ -99,7 +99,7 @@ pub step-hit-core : (p : Rules) (o : Origin) (h : List Event) (number now sheet 
     → find number (hall .books .txs) ≡ Some tx → tx .frames ≡ frame ∷ frames → lastAnswer frame ≡ false → p .turn (frame .point) .ask ≡ Called sheet argument
     → Looks (hall .entries) (keyOf sheet argument) (tx .set) (hall .books .delivered) (Some entry) → Same (hall .entries) entries
     → Core p o (record { call = Step number now; changes = []; reply = Open; given = Some (record { number = number; question = ofSheet sheet argument; reading = entry .reading }) } ∷ h)
-      (record { db = hall .db; entries = entries; books = withTx (narrowed (hitPart (hall .books .delivered) entry) (withFrames (went p frame (entry .reading) ∷ frames) tx)) (hall .books .pins) (hall .books) })
+    (record { db = hall .db; entries = entries; books = withTx (narrowed (hitPart (hall .books .delivered) entry) (withFrames (went p frame (entry .reading) ∷ frames) tx)) (hall .books .pins) (hall .books) })
 step-hit-core p o h number now sheet argument hall tx frame frames entry entries core is fr last asked looks same =
     let T = hall .books .delivered in
     let core₁ = same-entries p o h hall entries same core in
@@ -130,7 +130,7 @@ above P f fs here all (suc i) g is = all i g is
 pub step-miss-core : (p : Rules) (o : Origin) (h : List Event) (number now sheet argument : ℕ) (hall : Hall) (tx : Transaction) (frame : Frame) (frames : List Frame) (entries : List Entry) → Core p o h hall
     → find number (hall .books .txs) ≡ Some tx → tx .frames ≡ frame ∷ frames → lastAnswer frame ≡ false → p .turn (frame .point) .ask ≡ Called sheet argument → sheet < p .sheets → Same (hall .entries) entries
     → Core p o (record { call = Step number now; changes = []; reply = Open; given = None } ∷ h)
-      (record { db = hall .db; entries = entries; books = withTx (withFrames (freshFrame sheet argument ∷ went p frame (frame .point .last) ∷ frames) tx) (hall .books .pins) (hall .books) })
+    (record { db = hall .db; entries = entries; books = withTx (withFrames (freshFrame sheet argument ∷ went p frame (frame .point .last) ∷ frames) tx) (hall .books .pins) (hall .books) })
 step-miss-core p o h number now sheet argument hall tx frame frames entries core is fr last asked there same =
     let core₁ = same-entries p o h hall entries same core in
     let good = core .txs tx (found number (hall .books .txs) tx is .0) in
@@ -162,11 +162,11 @@ forward p o h db pins next tx i g good is t open-is =
     ⊎-elim
     (λ (pr : tx .present ≡ true). let w = ap (λ (x : Part). x .interval .first) (good .whole pr i g is) in omega arith)
     (λ (pr : tx .present ≡ false).
-        let some = good .some pr in
-        let inside = and-parts _ _ (good .inside (some .0) (some .1) i g is) in
-        let a = leb-true (g .part .interval .first) (some .0) (inside .0) in
-        let b = reaches-going (g .part .interval .until) t (some .0) open-is (inside .1) in
-        omega arith)
+    let some = good .some pr in
+    let inside = and-parts _ _ (good .inside (some .0) (some .1) i g is) in
+    let a = leb-true (g .part .interval .first) (some .0) (inside .0) in
+    let b = reaches-going (g .part .interval .until) t (some .0) open-is (inside .1) in
+    omega arith)
     (cases-bool (tx .present))
 
 -- what a done frame enters is good
@@ -178,10 +178,10 @@ entered-good p o h hall frame reading entries None core fwd claim is same e a = 
 entered-good p o h hall frame reading entries (Some new) core fwd claim is ins e a =
     ⊎-elim
     (λ top.
-        let r = enter-claim o h (hall .db) (hall .books .delivered) (frame .part) (keyOf (frame .point .sheet) (frame .point .argument)) reading new (λ z. Gives p z (frame .point .sheet) (frame .point .argument) reading) (core .past) fwd is claim in
-        subst (EntryGood p o h (hall .db) (hall .books .delivered)) (sym top)
-        (claim-map o h (hall .db) _ _ _
-            (λ z x. subst (λ q. Gives p z (new .key .sheet) (new .key .argument) q) (sym (r .2)) (subst (λ k. Gives p z (k .sheet) (k .argument) reading) (sym (r .1)) x)) (r .0)))
+    let r = enter-claim o h (hall .db) (hall .books .delivered) (frame .part) (keyOf (frame .point .sheet) (frame .point .argument)) reading new (λ z. Gives p z (frame .point .sheet) (frame .point .argument) reading) (core .past) fwd is claim in
+    subst (EntryGood p o h (hall .db) (hall .books .delivered)) (sym top)
+    (claim-map o h (hall .db) _ _ _
+    (λ z x. subst (λ q. Gives p z (new .key .sheet) (new .key .argument) q) (sym (r .2)) (subst (λ k. Gives p z (k .sheet) (k .argument) reading) (sym (r .1)) x)) (r .0)))
     (λ old. core .entries e (old .0))
     (ins .old e a)
 
@@ -195,16 +195,17 @@ done-right p o h hall tx frame frames reading core own fr is =
     let top : nth 0 (tx .frames) ≡ Some frame = ap (nth 0) fr in
     let sheets = good .sheets 0 frame top in
     let claim = claim-map o h (hall .db) (frame .part) (λ z. TowerTo p z 0 (tx .frames)) (λ z. Gives p z (frame .point .sheet) (frame .point .argument) reading)
-        (λ z t. done-gives p z (frame .answers) (frame .point) reading (sheets .0) (sheets .1) (subst (λ fs. TowerTo p z 0 fs) fr t .0) is) (good .stack 0 frame top) in
-    (claim,
-     λ pr z. whole-all o h (hall .db) (frame .part) _ (good .whole pr 0 frame top) claim z,
-     λ m a. claim-here o h (hall .db) (frame .part) _ m (set-held p o h hall tx m core good a) (good .inside m a 0 frame top) claim)
+    (λ z t. done-gives p z (frame .answers) (frame .point) reading (sheets .0) (sheets .1) (subst (λ fs. TowerTo p z 0 fs) fr t .0) is) (good .stack 0 frame top) in (
+      claim,
+      λ pr z. whole-all o h (hall .db) (frame .part) _ (good .whole pr 0 frame top) claim z,
+      λ m a. claim-here o h (hall .db) (frame .part) _ m (set-held p o h hall tx m core good a) (good .inside m a 0 frame top) claim,
+    )
 
 pub step-done-core : (p : Rules) (o : Origin) (h : List Event) (number now : ℕ) (reading : Reading) (hall : Hall) (tx : Transaction) (frame below : Frame) (frames : List Frame) (entries : List Entry) → Core p o h hall
     → find number (hall .books .txs) ≡ Some tx → tx .frames ≡ frame ∷ below ∷ frames → p .turn (frame .point) .ask ≡ Done reading
     → Enters (hall .entries) (entering (hall .books .delivered) frame reading) entries
     → Core p o (record { call = Step number now; changes = []; reply = Open; given = Some (record { number = number; question = ofSheet (frame .point .sheet) (frame .point .argument); reading = reading }) } ∷ h)
-      (record { db = hall .db; entries = entries; books = withTx (withFrames (handed reading below ∷ frames) tx) (hall .books .pins) (hall .books) })
+    (record { db = hall .db; entries = entries; books = withTx (withFrames (handed reading below ∷ frames) tx) (hall .books .pins) (hall .books) })
 step-done-core p o h number now reading hall tx frame below frames entries core is fr asked enters =
     let own = found number (hall .books .txs) tx is in
     let good = core .txs tx (own .0) in
@@ -220,16 +221,17 @@ step-done-core p o h number now reading hall tx frame below frames entries core 
     (sheet-same p below (handed reading below) frames (good .sheets 1 below (to 0 below refl)) (λ i g x. good .sheets (suc i) g (to i g x)))
     refl
     (λ given nw.
-        let same = one-given (record { number = number; question = ofSheet (frame .point .sheet) (frame .point .argument); reading = reading }) given nw in
-        (ap (λ (x : Given). x .number) (sym same) ∙ sym (own .1),
-         λ pr z. subst (λ (x : Given). Right p z (x .question) (x .reading)) same (right .1 pr z),
-         λ m a. subst (λ (x : Given). Right p (recordsAt o h m) (x .question) (x .reading)) same (right .2 m a)))
+    let same = one-given (record { number = number; question = ofSheet (frame .point .sheet) (frame .point .argument); reading = reading }) given nw in (
+      ap (λ (x : Given). x .number) (sym same) ∙ sym (own .1),
+      λ pr z. subst (λ (x : Given). Right p z (x .question) (x .reading)) same (right .1 pr z),
+      λ m a. subst (λ (x : Given). Right p (recordsAt o h m) (x .question) (x .reading)) same (right .2 m a),
+    ))
 
 pub step-last-core : (p : Rules) (o : Origin) (h : List Event) (number now : ℕ) (reading : Reading) (hall : Hall) (tx : Transaction) (frame : Frame) (entries : List Entry) → Core p o h hall
     → find number (hall .books .txs) ≡ Some tx → tx .frames ≡ frame ∷ [] → p .turn (frame .point) .ask ≡ Done reading
     → Enters (hall .entries) (entering (hall .books .delivered) frame reading) entries
     → Core p o (record { call = Step number now; changes = []; reply = Read reading; given = Some (record { number = number; question = ofSheet (frame .point .sheet) (frame .point .argument); reading = reading }) } ∷ h)
-      (record { db = hall .db; entries = entries; books = withTx (withFrames [] tx) (hall .books .pins) (hall .books) })
+    (record { db = hall .db; entries = entries; books = withTx (withFrames [] tx) (hall .books .pins) (hall .books) })
 step-last-core p o h number now reading hall tx frame entries core is fr asked enters =
     let own = found number (hall .books .txs) tx is in
     let good = core .txs tx (own .0) in
@@ -239,7 +241,8 @@ step-last-core p o h number now reading hall tx frame entries core is fr asked e
     (record { db = hall .db; entries = entries; books = hall .books }) tx [] core₁ (found-at number (hall .books .txs) tx is)
     (λ i g x. absurd (none-frame g x)) (λ pr i g x. absurd (none-frame g x)) (λ m a i g x. absurd (none-frame g x)) (λ i g x. absurd (none-frame g x)) refl
     (λ given nw.
-        let same = one-given (record { number = number; question = ofSheet (frame .point .sheet) (frame .point .argument); reading = reading }) given nw in
-        (ap (λ (x : Given). x .number) (sym same) ∙ sym (own .1),
-         λ pr z. subst (λ (x : Given). Right p z (x .question) (x .reading)) same (right .1 pr z),
-         λ m a. subst (λ (x : Given). Right p (recordsAt o h m) (x .question) (x .reading)) same (right .2 m a)))
+    let same = one-given (record { number = number; question = ofSheet (frame .point .sheet) (frame .point .argument); reading = reading }) given nw in (
+      ap (λ (x : Given). x .number) (sym same) ∙ sym (own .1),
+      λ pr z. subst (λ (x : Given). Right p z (x .question) (x .reading)) same (right .1 pr z),
+      λ m a. subst (λ (x : Given). Right p (recordsAt o h m) (x .question) (x .reading)) same (right .2 m a),
+    ))

@@ -46,20 +46,21 @@ pub narrow-good : (p : Rules) (o : Origin) (h : List Event) (db : Db) (pins : Li
     → TxGood p o h db pins next (narrowed part (withFrames gs tx))
 narrow-good p o h db pins next tx part gs m₀ good in-set in-part stack inside sheets =
     let both : (m : ℕ) → among m (kept-by (contains (part .interval)) (tx .set)) ≡ true → (among m (tx .set) ≡ true) × (contains (part .interval) m ≡ true) =
-        λ m a. and-parts _ _ (sym (among-kept (contains (part .interval)) m (tx .set)) ∙ a) in
+    λ m a. and-parts _ _ (sym (among-kept (contains (part .interval)) m (tx .set)) ∙ a) in
     record {
-        younger = good .younger;
-        holds = λ m a. good .holds m (both m a .0);
-        pinned = good .pinned;
-        some = λ pr. (m₀, among-kept (contains (part .interval)) m₀ (tx .set) ∙ and-from _ _ in-set in-part);
-        whole = λ pr. absurd (both-ways false refl pr);
-        free = λ pr. absurd (both-ways false refl pr);
-        inside = λ m a i g is.
-            let was = nth-cut part i gs g is in
-            subst (λ (x : Frame). contains (x .part .interval) m ≡ true) (sym (was .2)) (meet-contains (was .0 .part) part m (inside m (both m a .0) i (was .0) (was .1)) (both m a .1));
-        stack = stack;
-        sheets = λ i g is. let was = nth-cut part i gs g is in subst (λ (x : Frame). (x .point .sheet < p .sheets) × (x .answers < 32)) (sym (was .2)) (sheets i (was .0) (was .1));
-        right = λ given g is m a. good .right given g is m (both m a .0) }
+      younger = good .younger;
+      holds = λ m a. good .holds m (both m a .0);
+      pinned = good .pinned;
+      some = λ pr. (m₀, among-kept (contains (part .interval)) m₀ (tx .set) ∙ and-from _ _ in-set in-part);
+      whole = λ pr. absurd (both-ways false refl pr);
+      free = λ pr. absurd (both-ways false refl pr);
+      inside = λ m a i g is.
+          let was = nth-cut part i gs g is in
+          subst (λ (x : Frame). contains (x .part .interval) m ≡ true) (sym (was .2)) (meet-contains (was .0 .part) part m (inside m (both m a .0) i (was .0) (was .1)) (both m a .1));
+      stack = stack;
+      sheets = λ i g is. let was = nth-cut part i gs g is in subst (λ (x : Frame). (x .point .sheet < p .sheets) × (x .answers < 32)) (sym (was .2)) (sheets i (was .0) (was .1));
+      right = λ given g is m a. good .right given g is m (both m a .0);
+    }
 
 some-given : (one other : Given) → Some one ≡ Some other → one ≡ other
 some-given one other e = cc
@@ -76,7 +77,7 @@ find-replaced tx′ (x ∷ txs) tx e =
     ⊎-elim
     (λ (is : eqb (tx′ .number) (x .number) ≡ true). ap (find (tx′ .number)) (cond-true (eqb (tx′ .number) (x .number)) (tx′ ∷ txs) (x ∷ replaced tx′ txs) is) ∙ cond-true (eqb (tx′ .number) (tx′ .number)) _ _ (eq-eqb (tx′ .number) (tx′ .number) refl))
     (λ (is : eqb (tx′ .number) (x .number) ≡ false). ap (find (tx′ .number)) (cond-false (eqb (tx′ .number) (x .number)) (tx′ ∷ txs) (x ∷ replaced tx′ txs) is) ∙ cond-false (eqb (tx′ .number) (x .number)) _ _ is
-        ∙ find-replaced tx′ txs tx (sym (cond-false (eqb (tx′ .number) (x .number)) _ _ is) ∙ e))
+    ∙ find-replaced tx′ txs tx (sym (cond-false (eqb (tx′ .number) (x .number)) _ _ is) ∙ e))
     (cases-bool (eqb (tx′ .number) (x .number)))
 
 pub replaced-again : (a b : Transaction) (txs : List Transaction) → a .number ≡ b .number → replaced a (replaced b txs) ≡ replaced a txs
@@ -84,12 +85,12 @@ replaced-again a b [] same = refl
 replaced-again a b (x ∷ txs) same =
     ⊎-elim
     (λ (is : eqb (b .number) (x .number) ≡ true).
-        let ax : eqb (a .number) (x .number) ≡ true = ap (λ n. eqb n (x .number)) same ∙ is in
-        let ab : eqb (a .number) (b .number) ≡ true = eq-eqb (a .number) (b .number) same in
-        ap (replaced a) (cond-true (eqb (b .number) (x .number)) (b ∷ txs) (x ∷ replaced b txs) is) ∙ cond-true (eqb (a .number) (b .number)) _ _ ab ∙ sym (cond-true (eqb (a .number) (x .number)) _ _ ax))
+    let ax : eqb (a .number) (x .number) ≡ true = ap (λ n. eqb n (x .number)) same ∙ is in
+    let ab : eqb (a .number) (b .number) ≡ true = eq-eqb (a .number) (b .number) same in
+    ap (replaced a) (cond-true (eqb (b .number) (x .number)) (b ∷ txs) (x ∷ replaced b txs) is) ∙ cond-true (eqb (a .number) (b .number)) _ _ ab ∙ sym (cond-true (eqb (a .number) (x .number)) _ _ ax))
     (λ (is : eqb (b .number) (x .number) ≡ false).
-        let ax : eqb (a .number) (x .number) ≡ false = ap (λ n. eqb n (x .number)) same ∙ is in
-        ap (replaced a) (cond-false (eqb (b .number) (x .number)) (b ∷ txs) (x ∷ replaced b txs) is) ∙ cond-false (eqb (a .number) (x .number)) _ _ ax ∙ ap (λ (ts : List Transaction). x ∷ ts) (replaced-again a b txs same) ∙ sym (cond-false (eqb (a .number) (x .number)) _ _ ax))
+    let ax : eqb (a .number) (x .number) ≡ false = ap (λ n. eqb n (x .number)) same ∙ is in
+    ap (replaced a) (cond-false (eqb (b .number) (x .number)) (b ∷ txs) (x ∷ replaced b txs) is) ∙ cond-false (eqb (a .number) (x .number)) _ _ ax ∙ ap (λ (ts : List Transaction). x ∷ ts) (replaced-again a b txs same) ∙ sym (cond-false (eqb (a .number) (x .number)) _ _ ax))
     (cases-bool (eqb (b .number) (x .number)))
 
 -- a reading that is right at Q is given, and the transaction is narrowed to the part of Q
@@ -109,16 +110,19 @@ core-given p o h e hall tx part gs Q m₀ given core is claim in-set in-part sta
     let core′ = core-tx p o h hall tx tx′ core is refl good′ in
     core-append p o h e (record { db = hall .db; entries = hall .entries; books = withTx tx′ (hall .books .pins) (hall .books) }) w
     (λ other now.
-        let same : given ≡ other = some-given given other (sym gives ∙ now) in
-        (subst (λ (x : Given). x .number < hall .books .next) same (subst (λ n. n < hall .books .next) (sym number) (good .younger)),
-         λ t a same-number.
-            let t-is : t ≡ tx′ = only-one (tx .number) (replaced tx′ (hall .books .txs)) tx′ t (ap distinct (numbers-replaced tx′ (hall .books .txs)) ∙ core .apart) (find-replaced tx′ (hall .books .txs) tx is) a
-                (sym same-number ∙ ap (λ (x : Given). x .number) (sym same) ∙ number) in
-            subst (λ (x : Transaction). (x .present ≡ true → (z : Records) → Right p z (other .question) (other .reading)) × ((m : ℕ) → among m (x .set) ≡ true → Right p (recordsAt o h m) (other .question) (other .reading))) (sym t-is)
-            (λ pr. absurd (both-ways false refl pr), λ m b.
+    let same : given ≡ other = some-given given other (sym gives ∙ now) in (
+      subst (λ (x : Given). x .number < hall .books .next) same (subst (λ n. n < hall .books .next) (sym number) (good .younger)),
+      λ t a same-number.
+          let t-is : t ≡ tx′ = only-one (tx .number) (replaced tx′ (hall .books .txs)) tx′ t (ap distinct (numbers-replaced tx′ (hall .books .txs)) ∙ core .apart) (find-replaced tx′ (hall .books .txs) tx is) a
+          (sym same-number ∙ ap (λ (x : Given). x .number) (sym same) ∙ number) in
+          subst (λ (x : Transaction). (x .present ≡ true → (z : Records) → Right p z (other .question) (other .reading)) × ((m : ℕ) → among m (x .set) ≡ true → Right p (recordsAt o h m) (other .question) (other .reading))) (sym t-is) (
+            λ pr. absurd (both-ways false refl pr),
+            λ m b.
                 let parts = and-parts _ _ (sym (among-kept (contains (part .interval)) m (tx .set)) ∙ b) in
                 subst (λ (x : Given). Right p (recordsAt o h m) (x .question) (x .reading)) same
-                (right (recordsAt o h m) (claim-here o h (hall .db) part Q m (set-held p o h hall tx m core good (parts .0)) (parts .1) claim)))))
+                (right (recordsAt o h m) (claim-here o h (hall .db) part Q m (set-held p o h hall tx m core good (parts .0)) (parts .1) claim)),
+          ),
+    ))
     core′
 
 -- frames change and a reading is given, and the transaction is not narrowed
@@ -136,12 +140,13 @@ core-frames p o h e hall tx gs core is stack whole inside sheets w gives =
     let good = core .txs tx (own .0) in
     let tx′ = withFrames gs tx in
     let good′ : TxGood p o h (hall .db) (hall .books .pins) (hall .books .next) tx′ =
-        record { younger = good .younger; holds = good .holds; pinned = good .pinned; some = good .some; whole = whole; free = good .free; inside = inside; stack = stack; sheets = sheets; right = good .right } in
+    record { younger = good .younger; holds = good .holds; pinned = good .pinned; some = good .some; whole = whole; free = good .free; inside = inside; stack = stack; sheets = sheets; right = good .right } in
     core-append p o h e (record { db = hall .db; entries = hall .entries; books = withTx tx′ (hall .books .pins) (hall .books) }) w
     (λ given now.
-        let g = gives given now in
-        (subst (λ n. n < hall .books .next) (sym (g .0)) (good .younger),
-         λ t a same-number.
-            let t-is : t ≡ tx′ = only-one (tx .number) (replaced tx′ (hall .books .txs)) tx′ t (ap distinct (numbers-replaced tx′ (hall .books .txs)) ∙ core .apart) (find-replaced tx′ (hall .books .txs) tx is) a (sym same-number ∙ g .0) in
-            subst (λ (x : Transaction). (x .present ≡ true → (z : Records) → Right p z (given .question) (given .reading)) × ((m : ℕ) → among m (x .set) ≡ true → Right p (recordsAt o h m) (given .question) (given .reading))) (sym t-is) (g .1, g .2)))
+    let g = gives given now in (
+      subst (λ n. n < hall .books .next) (sym (g .0)) (good .younger),
+      λ t a same-number.
+          let t-is : t ≡ tx′ = only-one (tx .number) (replaced tx′ (hall .books .txs)) tx′ t (ap distinct (numbers-replaced tx′ (hall .books .txs)) ∙ core .apart) (find-replaced tx′ (hall .books .txs) tx is) a (sym same-number ∙ g .0) in
+          subst (λ (x : Transaction). (x .present ≡ true → (z : Records) → Right p z (given .question) (given .reading)) × ((m : ℕ) → among m (x .set) ≡ true → Right p (recordsAt o h m) (given .question) (given .reading))) (sym t-is) (g .1, g .2),
+    ))
     (core-tx p o h hall tx tx′ core is refl good′)

@@ -80,10 +80,11 @@ Stack p o h db frames = (i : ℕ) (g : Frame) → nth i frames ≡ Some g → Cl
 below-cut : (p : Rules) (z : Records) (i : ℕ) (part : Part) (f f′ : Frame) (fs : List Frame) → f′ .point .sheet ≡ f .point .sheet → f′ .point .argument ≡ f .point .argument → BelowTo p z i f fs → BelowTo p z i f′ (map (cut part) fs)
 below-cut p z i part f f′ [] s a b = tt
 below-cut p z zero part f f′ (g ∷ gs) s a b = tt
-below-cut p z (suc i) part f f′ (g ∷ gs) s a b =
-    (subst (λ y. Waits p z (cut part g) (f′ .point .sheet) y) (sym a) (subst (λ x. Waits p z (cut part g) x (f .point .argument)) (sym s)
-        (record { count = b .0 .count; from = b .0 .from; comes = b .0 .comes; asks = b .0 .asks; next = b .0 .next; onto = b .0 .onto })),
-     below-cut p z i part g (cut part g) gs refl refl (b .1))
+below-cut p z (suc i) part f f′ (g ∷ gs) s a b = (
+  subst (λ y. Waits p z (cut part g) (f′ .point .sheet) y) (sym a) (subst (λ x. Waits p z (cut part g) x (f .point .argument)) (sym s)
+      (record { count = b .0 .count; from = b .0 .from; comes = b .0 .comes; asks = b .0 .asks; next = b .0 .next; onto = b .0 .onto })),
+  below-cut p z i part g (cut part g) gs refl refl (b .1),
+)
 
 below-same : (p : Rules) (z : Records) (i : ℕ) (f f′ : Frame) (fs : List Frame) → f′ .point .sheet ≡ f .point .sheet → f′ .point .argument ≡ f .point .argument → BelowTo p z i f fs → BelowTo p z i f′ fs
 below-same p z i f f′ [] s a b = tt
@@ -123,7 +124,7 @@ stack-given p o h db part Q f f′ fs same s a on claim stack i g e =
     let both = claim-meet o h db (was .0 .part) part (λ z. TowerTo p z i (f ∷ fs)) Q old claim in
     subst (λ x. Claim o h db (x .part) (λ z. TowerTo p z i (map (cut part) (f′ ∷ fs)))) (sym (was .2))
     (claim-map o h db (meet (was .0 .part) part) (λ z. TowerTo p z i (f ∷ fs) × Q z) (λ z. TowerTo p z i (map (cut part) (f′ ∷ fs)))
-        (λ z t. (on z (t .1) (t .0 .0), below-cut p z i part f (cut part f′) fs s a (t .0 .1))) both)
+    (λ z t. (on z (t .1) (t .0 .0), below-cut p z i part f (cut part f′) fs s a (t .0 .1))) both)
 
 -- a frame is opened above the top one, which waits for it
 pub stack-opened : (p : Rules) (o : Origin) (h : List Event) (db : Db) (f f′ : Frame) (fs : List Frame) (sheet argument : ℕ)
@@ -147,9 +148,10 @@ pub stack-done : (p : Rules) (o : Origin) (h : List Event) (db : Db) (f g : Fram
 stack-done p o h db f g gs r there few is stack i k e =
     claim-map o h db (k .part) (λ z. TowerTo p z (suc i) (f ∷ g ∷ gs)) (λ z. TowerTo p z i (handed r g ∷ gs))
     (λ z t.
-        let w = t .1 .0 in
-        let gives = done-gives p z (f .answers) (f .point) r there few (t .0) is in
-        let on = called (w .count) (w .from) (f .point .sheet) (f .point .argument) r (w .comes) (w .asks) gives in
-        (subst (λ q. Comes p z (g .answers) q) (sym (w .onto r)) (subst (λ n. Comes p z n (after (p .turn (w .from)) (w .from) r)) (sym (w .next)) on),
-         below-same p z i g (handed r g) gs refl refl (t .1 .1)))
+    let w = t .1 .0 in
+    let gives = done-gives p z (f .answers) (f .point) r there few (t .0) is in
+    let on = called (w .count) (w .from) (f .point .sheet) (f .point .argument) r (w .comes) (w .asks) gives in (
+      subst (λ q. Comes p z (g .answers) q) (sym (w .onto r)) (subst (λ n. Comes p z n (after (p .turn (w .from)) (w .from) r)) (sym (w .next)) on),
+      below-same p z i g (handed r g) gs refl refl (t .1 .1),
+    ))
     (done-claim p o h db f g gs r stack i k e)

@@ -81,11 +81,11 @@ kept-moments f (x ∷ pins) pin d a =
     let out : among (x .moment) (moments pins) ≡ false = not-true _ (parts .0) in
     ⊎-elim
     (λ top. let m = ap (λ (y : Pin). y .moment) top in
-        let gone : among (x .moment) (moments (kept-by f pins)) ≡ false = ⊎-elim (λ (e : among (x .moment) (moments (kept-by f pins)) ≡ true). absurd (both-ways (among (x .moment) (moments pins)) out (some-moments f pins (x .moment) e))) (λ (e : among (x .moment) (moments (kept-by f pins)) ≡ false). e) (cases-bool (among (x .moment) (moments (kept-by f pins)))) in
-        ap (λ k. among k (moments (kept-by f (x ∷ pins)))) m ∙ ⊎-elim (λ (e : f x ≡ true). rw e (or-left _ _ (eq-eqb (x .moment) (x .moment) refl))) (λ (e : f x ≡ false). rw e gone) (cases-bool (f x)) ∙ ap f (sym top))
+    let gone : among (x .moment) (moments (kept-by f pins)) ≡ false = ⊎-elim (λ (e : among (x .moment) (moments (kept-by f pins)) ≡ true). absurd (both-ways (among (x .moment) (moments pins)) out (some-moments f pins (x .moment) e))) (λ (e : among (x .moment) (moments (kept-by f pins)) ≡ false). e) (cases-bool (among (x .moment) (moments (kept-by f pins)))) in
+    ap (λ k. among k (moments (kept-by f (x ∷ pins)))) m ∙ ⊎-elim (λ (e : f x ≡ true). rw e (or-left _ _ (eq-eqb (x .moment) (x .moment) refl))) (λ (e : f x ≡ false). rw e gone) (cases-bool (f x)) ∙ ap f (sym top))
     (λ b. let ih = kept-moments f pins pin (parts .1) b in
-        let ne : eqb (pin .moment) (x .moment) ≡ false = ne-eqb (pin .moment) (x .moment) (λ e. both-ways (among (x .moment) (moments pins)) out (ap (λ k. among k (moments pins)) (sym e) ∙ pin-moment pin pins b)) in
-        ⊎-elim (λ (e : f x ≡ true). rw e (ap (λ t. t || among (pin .moment) (moments (kept-by f pins))) ne ∙ ih)) (λ (e : f x ≡ false). rw e ih) (cases-bool (f x)))
+    let ne : eqb (pin .moment) (x .moment) ≡ false = ne-eqb (pin .moment) (x .moment) (λ e. both-ways (among (x .moment) (moments pins)) out (ap (λ k. among k (moments pins)) (sym e) ∙ pin-moment pin pins b)) in
+    ⊎-elim (λ (e : f x ≡ true). rw e (ap (λ t. t || among (pin .moment) (moments (kept-by f pins))) ne ∙ ih)) (λ (e : f x ≡ false). rw e ih) (cases-bool (f x)))
     a
 
 distinct-some : (f : Pin → Bool) (pins : List Pin) → distinct (moments pins) ≡ true → distinct (moments (kept-by f pins)) ≡ true
@@ -103,7 +103,17 @@ young-numbers next (t ∷ txs) all = let l = all t (inl refl) in or-from _ _ (ne
 
 older : (p : Rules) (o : Origin) (h : List Event) (db : Db) (pins pins′ : List Pin) (next : ℕ) (tx : Transaction) → moments pins′ ≡ moments pins → TxGood p o h db pins next tx → TxGood p o h db pins′ (next + 1) tx
 older p o h db pins pins′ next tx same good = record {
-    younger = let y = good .younger in omega arith; holds = good .holds; pinned = λ m a. ap (among m) same ∙ good .pinned m a; some = good .some; whole = good .whole; free = good .free; inside = good .inside; stack = good .stack; sheets = good .sheets; right = good .right }
+  younger = let y = good .younger in omega arith;
+  holds = good .holds;
+  pinned = λ m a. ap (among m) same ∙ good .pinned m a;
+  some = good .some;
+  whole = good .whole;
+  free = good .free;
+  inside = good .inside;
+  stack = good .stack;
+  sheets = good .sheets;
+  right = good .right;
+}
 
 pub begin-core : (p : Rules) (o : Origin) (h : List Event) (now limit : ℕ) (hall : Hall) (e : Event) → Core p o h hall → isWrite (e .reply) ≡ false → e .given ≡ None → Core p o (e ∷ h) (record { db = hall .db; entries = hall .entries; books = afterBegin now limit (hall .books) })
 begin-core p o h now limit hall e core w none =
@@ -113,38 +123,45 @@ begin-core p o h now limit hall e core w none =
     let new = begun now limit books in
     let hall′ : Hall = record { db = hall .db; entries = hall .entries; books = afterBegin now limit books } in
     let core′ : Core p o h hall′ = record {
-        latest = core .latest; past = core .past; stream = core .stream; sound = core .sound; faithful = core .faithful;
-        same = λ m. core .same m ∙ ap (among m) (sym same);
-        once = ap distinct same ∙ core .once;
-        uses = λ pin a.
-            let was = among-mapped (gained now limit) pin pins a in
-            let x = was .0 in
-            let u = core .uses x (was .1) in
-            let c = holders-cons (x .moment) new (books .txs) in
-            let in-new = kept-moments (isFresh now limit) pins x (core .once) (was .1) in
-            subst (λ (y : Pin). y .uses ≡ holders (y .moment) (new ∷ books .txs)) (sym (was .2))
-            (⊎-elim
-                (λ (f : isFresh now limit x ≡ true). subst (λ (y : Pin). y .uses ≡ holders (y .moment) (new ∷ books .txs)) (sym (cond-true (isFresh now limit x) _ _ f))
-                    (let b : bit (x .moment) new ≡ 1 = cond-true (among (x .moment) (new .holds)) 1 0 (in-new ∙ f) in omega arith))
-                (λ (f : isFresh now limit x ≡ false). subst (λ (y : Pin). y .uses ≡ holders (y .moment) (new ∷ books .txs)) (sym (cond-false (isFresh now limit x) _ _ f))
-                    (let b : bit (x .moment) new ≡ 0 = cond-false (among (x .moment) (new .holds)) 1 0 (in-new ∙ f) in omega arith))
-                (cases-bool (isFresh now limit x)));
-        apart = and-from _ _ (not-from-false _ (young-numbers (books .next) (books .txs) (λ t a. core .txs t a .younger))) (core .apart);
-        entries = core .entries;
-        txs = λ t a. ⊎-elim
-            (λ top. subst (TxGood p o h (hall .db) (map (gained now limit) pins) (books .next + 1)) (sym top)
-                (record {
-                    younger = omega arith; holds = λ m b. b;
-                    pinned = λ m b. ap (among m) same ∙ some-moments (isFresh now limit) pins m b;
-                    some = λ pr. absurd (both-ways true pr refl);
-                    whole = λ pr i g x. absurd (none-frame g x);
-                    free = λ pr given g is. let y = core .givens given g in absurd (omega arith);
-                    inside = λ m b i g x. absurd (none-frame g x);
-                    stack = λ i g x. absurd (none-frame g x);
-                    sheets = λ i g x. absurd (none-frame g x);
-                    right = λ given g is. let y = core .givens given g in absurd (omega arith) }))
-            (λ old. older p o h (hall .db) pins (map (gained now limit) pins) (books .next) t same (core .txs t old)) a;
-        givens = λ given g. let y = core .givens given g in omega arith } in
+      latest = core .latest;
+      past = core .past;
+      stream = core .stream;
+      sound = core .sound;
+      faithful = core .faithful;
+      same = λ m. core .same m ∙ ap (among m) (sym same);
+      once = ap distinct same ∙ core .once;
+      uses = λ pin a.
+          let was = among-mapped (gained now limit) pin pins a in
+          let x = was .0 in
+          let u = core .uses x (was .1) in
+          let c = holders-cons (x .moment) new (books .txs) in
+          let in-new = kept-moments (isFresh now limit) pins x (core .once) (was .1) in
+          subst (λ (y : Pin). y .uses ≡ holders (y .moment) (new ∷ books .txs)) (sym (was .2))
+          (⊎-elim
+          (λ (f : isFresh now limit x ≡ true). subst (λ (y : Pin). y .uses ≡ holders (y .moment) (new ∷ books .txs)) (sym (cond-true (isFresh now limit x) _ _ f))
+          (let b : bit (x .moment) new ≡ 1 = cond-true (among (x .moment) (new .holds)) 1 0 (in-new ∙ f) in omega arith))
+          (λ (f : isFresh now limit x ≡ false). subst (λ (y : Pin). y .uses ≡ holders (y .moment) (new ∷ books .txs)) (sym (cond-false (isFresh now limit x) _ _ f))
+          (let b : bit (x .moment) new ≡ 0 = cond-false (among (x .moment) (new .holds)) 1 0 (in-new ∙ f) in omega arith))
+          (cases-bool (isFresh now limit x)));
+      apart = and-from _ _ (not-from-false _ (young-numbers (books .next) (books .txs) (λ t a. core .txs t a .younger))) (core .apart);
+      entries = core .entries;
+      txs = λ t a. ⊎-elim
+          (λ top. subst (TxGood p o h (hall .db) (map (gained now limit) pins) (books .next + 1)) (sym top)
+          (record {
+            younger = omega arith;
+            holds = λ m b. b;
+            pinned = λ m b. ap (among m) same ∙ some-moments (isFresh now limit) pins m b;
+            some = λ pr. absurd (both-ways true pr refl);
+            whole = λ pr i g x. absurd (none-frame g x);
+            free = λ pr given g is. let y = core .givens given g in absurd (omega arith);
+            inside = λ m b i g x. absurd (none-frame g x);
+            stack = λ i g x. absurd (none-frame g x);
+            sheets = λ i g x. absurd (none-frame g x);
+            right = λ given g is. let y = core .givens given g in absurd (omega arith);
+          }))
+          (λ old. older p o h (hall .db) pins (map (gained now limit) pins) (books .next) t same (core .txs t old)) a;
+      givens = λ given g. let y = core .givens given g in omega arith;
+    } in
     core-append p o h e hall′ w (gives-nothing p o h e (books .next + 1) (new ∷ books .txs) none) core′
 
 -- commit and abort
@@ -165,13 +182,13 @@ numbers-removed n (x ∷ txs) d =
     let parts = and-parts _ _ d in
     ⊎-elim
     (λ (e : eqb n (x .number) ≡ true).
-        let is = eqb-true n (x .number) e in
-        let out : among n (numbers txs) ≡ false = ap (λ k. among k (numbers txs)) is ∙ not-true _ (parts .0) in
-        let f : eqb (x .number) n ≡ true = eq-eqb (x .number) n (sym is) in
-        ap numbers (cond-true (eqb n (x .number)) _ _ e) ∙ sym (among-none n (numbers txs) out) ∙ sym (cond-false (not (eqb (x .number) n)) _ _ (not-from-true _ f)))
+    let is = eqb-true n (x .number) e in
+    let out : among n (numbers txs) ≡ false = ap (λ k. among k (numbers txs)) is ∙ not-true _ (parts .0) in
+    let f : eqb (x .number) n ≡ true = eq-eqb (x .number) n (sym is) in
+    ap numbers (cond-true (eqb n (x .number)) _ _ e) ∙ sym (among-none n (numbers txs) out) ∙ sym (cond-false (not (eqb (x .number) n)) _ _ (not-from-true _ f)))
     (λ (e : eqb n (x .number) ≡ false).
-        let f : eqb (x .number) n ≡ false = ne-eqb (x .number) n (λ is. eqb-false n (x .number) e (sym is)) in
-        ap numbers (cond-false (eqb n (x .number)) _ _ e) ∙ ap (λ ns. x .number ∷ ns) (numbers-removed n txs (parts .1)) ∙ sym (cond-true (not (eqb (x .number) n)) _ _ (not-from-false _ f)))
+    let f : eqb (x .number) n ≡ false = ne-eqb (x .number) n (λ is. eqb-false n (x .number) e (sym is)) in
+    ap numbers (cond-false (eqb n (x .number)) _ _ e) ∙ ap (λ ns. x .number ∷ ns) (numbers-removed n txs (parts .1)) ∙ sym (cond-true (not (eqb (x .number) n)) _ _ (not-from-false _ f)))
     (cases-bool (eqb n (x .number)))
 
 lost-moment : (ms : List ℕ) (pin : Pin) → lost ms pin .moment ≡ pin .moment
@@ -185,22 +202,22 @@ end-core p o h number hall tx e core is w none =
     let at : find (tx .number) (books .txs) ≡ Some tx = ap (λ k. find k (books .txs)) (found number (books .txs) tx is .1) ∙ is in
     let same = moments-map (lost (tx .holds)) pins (lost-moment (tx .holds)) in
     let core′ = core-change p o h hall (hall .db) (map (lost (tx .holds)) pins) (removed (tx .number) (books .txs)) core refl (λ m x. x) (core .sound) (λ m t k x. refl)
-        (λ m. core .same m ∙ ap (among m) (sym same)) (ap distinct same ∙ core .once)
-        (λ pin a.
-            let was = among-mapped (lost (tx .holds)) pin pins a in
-            let x = was .0 in
-            let u = core .uses x (was .1) in
-            let c = holders-removed (x .moment) (tx .number) tx (books .txs) at in
-            subst (λ (y : Pin). y .uses ≡ holders (y .moment) (removed (tx .number) (books .txs))) (sym (was .2))
-            (⊎-elim
-                (λ (f : among (x .moment) (tx .holds) ≡ true). subst (λ (y : Pin). y .uses ≡ holders (y .moment) (removed (tx .number) (books .txs))) (sym (cond-true (among (x .moment) (tx .holds)) _ _ f))
-                    (let b : bit (x .moment) tx ≡ 1 = cond-true (among (x .moment) (tx .holds)) 1 0 f in omega arith))
-                (λ (f : among (x .moment) (tx .holds) ≡ false). subst (λ (y : Pin). y .uses ≡ holders (y .moment) (removed (tx .number) (books .txs))) (sym (cond-false (among (x .moment) (tx .holds)) _ _ f))
-                    (let b : bit (x .moment) tx ≡ 0 = cond-false (among (x .moment) (tx .holds)) 1 0 f in omega arith))
-                (cases-bool (among (x .moment) (tx .holds)))))
-        (ap distinct (numbers-removed (tx .number) (books .txs) (core .apart)) ∙ distinct-without (tx .number) (numbers (books .txs)) (core .apart))
-        (λ t a m b c. ap (among m) same ∙ core .txs t a .pinned m b)
-        (λ t a. inr (in-removed (tx .number) (books .txs) t a)) in
+    (λ m. core .same m ∙ ap (among m) (sym same)) (ap distinct same ∙ core .once)
+    (λ pin a.
+    let was = among-mapped (lost (tx .holds)) pin pins a in
+    let x = was .0 in
+    let u = core .uses x (was .1) in
+    let c = holders-removed (x .moment) (tx .number) tx (books .txs) at in
+    subst (λ (y : Pin). y .uses ≡ holders (y .moment) (removed (tx .number) (books .txs))) (sym (was .2))
+    (⊎-elim
+    (λ (f : among (x .moment) (tx .holds) ≡ true). subst (λ (y : Pin). y .uses ≡ holders (y .moment) (removed (tx .number) (books .txs))) (sym (cond-true (among (x .moment) (tx .holds)) _ _ f))
+    (let b : bit (x .moment) tx ≡ 1 = cond-true (among (x .moment) (tx .holds)) 1 0 f in omega arith))
+    (λ (f : among (x .moment) (tx .holds) ≡ false). subst (λ (y : Pin). y .uses ≡ holders (y .moment) (removed (tx .number) (books .txs))) (sym (cond-false (among (x .moment) (tx .holds)) _ _ f))
+    (let b : bit (x .moment) tx ≡ 0 = cond-false (among (x .moment) (tx .holds)) 1 0 f in omega arith))
+    (cases-bool (among (x .moment) (tx .holds)))))
+    (ap distinct (numbers-removed (tx .number) (books .txs) (core .apart)) ∙ distinct-without (tx .number) (numbers (books .txs)) (core .apart))
+    (λ t a m b c. ap (among m) same ∙ core .txs t a .pinned m b)
+    (λ t a. inr (in-removed (tx .number) (books .txs) t a)) in
     core-append p o h e (record { db = hall .db; entries = hall .entries; books = afterEnd tx books }) w (gives-nothing p o h e (books .next) (removed (tx .number) (books .txs)) none) core′
 
 -- a write
@@ -220,33 +237,41 @@ write-core p o h e moment hall db core sound w none wrote =
     let L = hall .db .latest in
     let top : moment ≡ latestOf o h + 1 = wrote .answer ∙ wrote .latest ∙ ap (λ n. n + 1) (core .latest) in
     record {
-        latest = wrote .latest ∙ ap (λ n. n + 1) (core .latest) ∙ sym (cond-true (isWrite (e .reply)) _ _ w);
-        past = let x = core .past in let y = wrote .latest in omega arith;
-        stream = ap (λ rows. rows ++ rowsOfWrite moment (e .changes)) (core .stream)
-            ∙ ap (λ rows. kept-by (λ row. ltb T (row .moment)) (rowsOf o h) ++ rows) (ap (λ n. rowsOfWrite n (e .changes)) top ∙ sym (new-rows T (latestOf o h + 1) (e .changes) (let x = core .past in let y = core .latest in omega arith)))
-            ∙ sym (kept-by-append (λ row. ltb T (row .moment)) (rowsOf o h) (rowsOfWrite (latestOf o h + 1) (e .changes))) ∙ ap (kept-by (λ row. ltb T (row .moment))) (sym (rows-new o h e w));
-        sound = sound;
-        faithful = λ m t k hd. ⊎-elim
-            (λ is. let at : m ≡ L + 1 = eqb-true m (db .latest) is ∙ wrote .latest in
-                ap (λ n. db .at n t k) (eqb-true m (db .latest) is) ∙ wrote .newest t k
-                ∙ changed-same (e .changes) (hall .db .at L) (recordsAt o h (latestOf o h)) (λ t k. core .faithful L t k (or-left _ _ (eq-eqb L L refl)) ∙ ap (λ n. recordsAt o h n t k) (core .latest)) t k
-                ∙ ap (λ (s : Records). s t k) (sym (records-new o h e w)) ∙ ap (λ n. recordsAt o (e ∷ h) n t k) (sym (at ∙ ap (λ n. n + 1) (core .latest))))
-            (λ pin. let old = sym (wrote .pins m) ∙ pin in
-                wrote .states m t k old ∙ core .faithful m t k (or-right _ _ old)
-                ∙ ap (λ (s : Records). s t k) (sym (records-before o h e m (let x = core .sound .past m old in let y = core .latest in omega arith))))
-            (or-cases _ _ hd);
-        same = λ m. wrote .pins m ∙ core .same m;
-        once = core .once; uses = core .uses; apart = core .apart;
-        entries = λ x a. claim-write o h e (hall .db) db moment (entryPart T x) _ w (core .latest) (core .sound) wrote (core .entries x a);
-        txs = λ t a. let good = core .txs t a in record {
-            younger = good .younger; holds = good .holds; pinned = good .pinned; some = good .some; whole = good .whole;
-            free = λ pr given g is. ⊎-elim (λ now. no-given given (sym none ∙ now)) (λ old. good .free pr given old is) g;
-            inside = good .inside;
-            stack = λ i g is. claim-write o h e (hall .db) db moment (g .part) _ w (core .latest) (core .sound) wrote (good .stack i g is);
-            sheets = good .sheets;
-            right = λ given g is m b. ⊎-elim (λ now. no-given given (sym none ∙ now))
-                (λ old. subst (λ s. Right p s (given .question) (given .reading)) (sym (records-before o h e m (let x = held-past (hall .db) m (core .sound) (set-held p o h hall t m core good b) in let y = core .latest in omega arith))) (good .right given old is m b)) g };
-        givens = λ given g. ⊎-elim (λ now. no-given given (sym none ∙ now)) (λ old. core .givens given old) g }
+      latest = wrote .latest ∙ ap (λ n. n + 1) (core .latest) ∙ sym (cond-true (isWrite (e .reply)) _ _ w);
+      past = let x = core .past in let y = wrote .latest in omega arith;
+      stream = ap (λ rows. rows ++ rowsOfWrite moment (e .changes)) (core .stream)
+          ∙ ap (λ rows. kept-by (λ row. ltb T (row .moment)) (rowsOf o h) ++ rows) (ap (λ n. rowsOfWrite n (e .changes)) top ∙ sym (new-rows T (latestOf o h + 1) (e .changes) (let x = core .past in let y = core .latest in omega arith)))
+          ∙ sym (kept-by-append (λ row. ltb T (row .moment)) (rowsOf o h) (rowsOfWrite (latestOf o h + 1) (e .changes))) ∙ ap (kept-by (λ row. ltb T (row .moment))) (sym (rows-new o h e w));
+      sound = sound;
+      faithful = λ m t k hd. ⊎-elim
+          (λ is. let at : m ≡ L + 1 = eqb-true m (db .latest) is ∙ wrote .latest in
+          ap (λ n. db .at n t k) (eqb-true m (db .latest) is) ∙ wrote .newest t k
+          ∙ changed-same (e .changes) (hall .db .at L) (recordsAt o h (latestOf o h)) (λ t k. core .faithful L t k (or-left _ _ (eq-eqb L L refl)) ∙ ap (λ n. recordsAt o h n t k) (core .latest)) t k
+          ∙ ap (λ (s : Records). s t k) (sym (records-new o h e w)) ∙ ap (λ n. recordsAt o (e ∷ h) n t k) (sym (at ∙ ap (λ n. n + 1) (core .latest))))
+          (λ pin. let old = sym (wrote .pins m) ∙ pin in
+          wrote .states m t k old ∙ core .faithful m t k (or-right _ _ old)
+          ∙ ap (λ (s : Records). s t k) (sym (records-before o h e m (let x = core .sound .past m old in let y = core .latest in omega arith))))
+          (or-cases _ _ hd);
+      same = λ m. wrote .pins m ∙ core .same m;
+      once = core .once;
+      uses = core .uses;
+      apart = core .apart;
+      entries = λ x a. claim-write o h e (hall .db) db moment (entryPart T x) _ w (core .latest) (core .sound) wrote (core .entries x a);
+      txs = λ t a. let good = core .txs t a in record {
+        younger = good .younger;
+        holds = good .holds;
+        pinned = good .pinned;
+        some = good .some;
+        whole = good .whole;
+        free = λ pr given g is. ⊎-elim (λ now. no-given given (sym none ∙ now)) (λ old. good .free pr given old is) g;
+        inside = good .inside;
+        stack = λ i g is. claim-write o h e (hall .db) db moment (g .part) _ w (core .latest) (core .sound) wrote (good .stack i g is);
+        sheets = good .sheets;
+        right = λ given g is m b. ⊎-elim (λ now. no-given given (sym none ∙ now))
+            (λ old. subst (λ s. Right p s (given .question) (given .reading)) (sym (records-before o h e m (let x = held-past (hall .db) m (core .sound) (set-held p o h hall t m core good b) in let y = core .latest in omega arith))) (good .right given old is m b)) g;
+      };
+      givens = λ given g. ⊎-elim (λ now. no-given given (sym none ∙ now)) (λ old. core .givens given old) g;
+    }
 
 -- a delivery
 rows-past : (o : Origin) (h : List Event) (row : Row) → Among row (rowsOf o h) → row .moment ≤ latestOf o h
@@ -254,13 +279,13 @@ rows-past o [] row a = absurd a
 rows-past o (e ∷ h) row a =
     ⊎-elim
     (λ (w : isWrite (e .reply) ≡ true).
-        let top : latestOf o (e ∷ h) ≡ latestOf o h + 1 = cond-true (isWrite (e .reply)) _ _ w in
-        ⊎-elim (λ old. let l = rows-past o h row old in omega arith)
-        (λ new. let was = among-mapped (λ (c : Change). record { moment = latestOf o h + 1; tag = changeTag c }) row (e .changes) new in let m = ap (λ (r : Row). r .moment) (was .2) in omega arith)
-        (members.among-append row (rowsOf o h) (rowsOfWrite (latestOf o h + 1) (e .changes)) (subst (Among row) (rows-new o h e w) a)))
+    let top : latestOf o (e ∷ h) ≡ latestOf o h + 1 = cond-true (isWrite (e .reply)) _ _ w in
+    ⊎-elim (λ old. let l = rows-past o h row old in omega arith)
+    (λ new. let was = among-mapped (λ (c : Change). record { moment = latestOf o h + 1; tag = changeTag c }) row (e .changes) new in let m = ap (λ (r : Row). r .moment) (was .2) in omega arith)
+    (members.among-append row (rowsOf o h) (rowsOfWrite (latestOf o h + 1) (e .changes)) (subst (Among row) (rows-new o h e w) a)))
     (λ (w : isWrite (e .reply) ≡ false).
-        let same : latestOf o (e ∷ h) ≡ latestOf o h = cond-false (isWrite (e .reply)) _ _ w in
-        let l = rows-past o h row (subst (Among row) (cond-false (isWrite (e .reply)) _ _ w) a) in omega arith)
+    let same : latestOf o (e ∷ h) ≡ latestOf o h = cond-false (isWrite (e .reply)) _ _ w in
+    let l = rows-past o h row (subst (Among row) (cond-false (isWrite (e .reply)) _ _ w) a) in omega arith)
     (cases-bool (isWrite (e .reply)))
 
 later-rows : (T : ℕ) (rows : List Row) → kept-by (λ row. not (isOf (T + 1) row)) (kept-by (λ row. ltb T (row .moment)) rows) ≡ kept-by (λ row. ltb (T + 1) (row .moment)) rows
@@ -270,11 +295,11 @@ later-rows T (row ∷ rows) =
     let m = row .moment in
     ⊎-elim
     (λ (a : ltb T m ≡ true).
-        let l = ltb-true T m a in
-        ⊎-elim
-        (λ (b : eqb m (T + 1) ≡ true). let is = eqb-true m (T + 1) b in let c : ltb (T + 1) m ≡ false = le-ltb (T + 1) m (omega arith) in rw a (rw b (rw c ih)))
-        (λ (b : eqb m (T + 1) ≡ false). let ne = eqb-false m (T + 1) b in let c : ltb (T + 1) m ≡ true = lt-ltb (T + 1) m (omega arith) in rw a (rw b (rw c (ap (λ rs. row ∷ rs) ih))))
-        (cases-bool (eqb m (T + 1))))
+    let l = ltb-true T m a in
+    ⊎-elim
+    (λ (b : eqb m (T + 1) ≡ true). let is = eqb-true m (T + 1) b in let c : ltb (T + 1) m ≡ false = le-ltb (T + 1) m (omega arith) in rw a (rw b (rw c ih)))
+    (λ (b : eqb m (T + 1) ≡ false). let ne = eqb-false m (T + 1) b in let c : ltb (T + 1) m ≡ true = lt-ltb (T + 1) m (omega arith) in rw a (rw b (rw c (ap (λ rs. row ∷ rs) ih))))
+    (cases-bool (eqb m (T + 1))))
     (λ (a : ltb T m ≡ false). let l = ltb-false T m a in let c : ltb (T + 1) m ≡ false = le-ltb (T + 1) m (omega arith) in rw a (rw c ih))
     (cases-bool (ltb T m))
 
@@ -290,7 +315,7 @@ closedAll-key [] n e = (refl, refl)
 closedAll-key (row ∷ rows) n e =
     let rest = closedAll-key rows n (closed (row .tag) n e) in
     let one : (closed (row .tag) n e .key ≡ e .key) × (closed (row .tag) n e .reading ≡ e .reading) =
-        ⊎-elim (λ (c : closes (row .tag) n e ≡ true). rw c (refl, refl)) (λ (c : closes (row .tag) n e ≡ false). rw c (refl, refl)) (cases-bool (closes (row .tag) n e)) in
+    ⊎-elim (λ (c : closes (row .tag) n e ≡ true). rw c (refl, refl)) (λ (c : closes (row .tag) n e ≡ false). rw c (refl, refl)) (cases-bool (closes (row .tag) n e)) in
     (rest .0 ∙ one .0, rest .1 ∙ one .1)
 
 pub deliver-core : (p : Rules) (o : Origin) (h : List Event) (e : Event) (hall : Hall) (row : Row) (rows : List Row) (entries : List Entry) → Core p o h hall → isWrite (e .reply) ≡ false → e .given ≡ None
@@ -306,20 +331,28 @@ deliver-core p o h e hall row rows entries core w none first closes =
     let under = rows-past o h row (parts .0) in
     let late : T + 1 ≤ hall .db .latest = let y = core .latest in omega arith in
     let all : (r : Row) → Among r (rowsOf o h) → r .moment ≡ T + 1 → Among r (kept-by (isOf (T + 1)) (books .rows)) =
-        λ r a is. members.among-kept (isOf (T + 1)) r (books .rows) (subst (Among r) (sym (core .stream)) (members.among-kept (λ row. ltb T (row .moment)) r (rowsOf o h) a (lt-ltb T (r .moment) (omega arith)))) (eq-eqb (r .moment) (T + 1) is) in
+    λ r a is. members.among-kept (isOf (T + 1)) r (books .rows) (subst (Among r) (sym (core .stream)) (members.among-kept (λ row. ltb T (row .moment)) r (rowsOf o h) a (lt-ltb T (r .moment) (omega arith)))) (eq-eqb (r .moment) (T + 1) is) in
     let hall′ : Hall = record { db = hall .db; entries = entries; books = withStream (T + 1) (kept-by (λ other. not (isOf (T + 1) other)) (books .rows)) books } in
     let core′ : Core p o h hall′ = record {
-        latest = core .latest; past = late;
-        stream = ap (kept-by (λ other. not (isOf (T + 1) other))) (core .stream) ∙ later-rows T (rowsOf o h);
-        sound = core .sound; faithful = core .faithful; same = core .same; once = core .once; uses = core .uses; apart = core .apart;
-        entries = λ x a.
-            let was = closes-each (T + 1) (kept-by (isOf (T + 1)) (books .rows)) (hall .entries) entries closes x a in
-            let key = closedAll-key (kept-by (isOf (T + 1)) (books .rows)) (T + 1) (was .0) in
-            let claim = deliver-claim o h (hall .db) T (kept-by (isOf (T + 1)) (books .rows)) (was .0) (closedAll (kept-by (isOf (T + 1)) (books .rows)) (T + 1) (was .0)) (λ z. Gives p z (was .0 .key .sheet) (was .0 .key .argument) (was .0 .reading)) late (core .sound .moments) all (comes-to (kept-by (isOf (T + 1)) (books .rows)) (T + 1) (was .0)) (core .entries (was .0) (was .1)) in
-            subst (EntryGood p o h (hall .db) (T + 1)) (sym (was .2))
-            (subst (λ k. Claim o h (hall .db) (entryPart (T + 1) (closedAll (kept-by (isOf (T + 1)) (books .rows)) (T + 1) (was .0))) (λ z. Gives p z (k .sheet) (k .argument) (closedAll (kept-by (isOf (T + 1)) (books .rows)) (T + 1) (was .0) .reading))) (sym (key .0))
-             (subst (λ r. Claim o h (hall .db) (entryPart (T + 1) (closedAll (kept-by (isOf (T + 1)) (books .rows)) (T + 1) (was .0))) (λ z. Gives p z (was .0 .key .sheet) (was .0 .key .argument) r)) (sym (key .1)) claim));
-        txs = core .txs; givens = core .givens } in
+      latest = core .latest;
+      past = late;
+      stream = ap (kept-by (λ other. not (isOf (T + 1) other))) (core .stream) ∙ later-rows T (rowsOf o h);
+      sound = core .sound;
+      faithful = core .faithful;
+      same = core .same;
+      once = core .once;
+      uses = core .uses;
+      apart = core .apart;
+      entries = λ x a.
+          let was = closes-each (T + 1) (kept-by (isOf (T + 1)) (books .rows)) (hall .entries) entries closes x a in
+          let key = closedAll-key (kept-by (isOf (T + 1)) (books .rows)) (T + 1) (was .0) in
+          let claim = deliver-claim o h (hall .db) T (kept-by (isOf (T + 1)) (books .rows)) (was .0) (closedAll (kept-by (isOf (T + 1)) (books .rows)) (T + 1) (was .0)) (λ z. Gives p z (was .0 .key .sheet) (was .0 .key .argument) (was .0 .reading)) late (core .sound .moments) all (comes-to (kept-by (isOf (T + 1)) (books .rows)) (T + 1) (was .0)) (core .entries (was .0) (was .1)) in
+          subst (EntryGood p o h (hall .db) (T + 1)) (sym (was .2))
+          (subst (λ k. Claim o h (hall .db) (entryPart (T + 1) (closedAll (kept-by (isOf (T + 1)) (books .rows)) (T + 1) (was .0))) (λ z. Gives p z (k .sheet) (k .argument) (closedAll (kept-by (isOf (T + 1)) (books .rows)) (T + 1) (was .0) .reading))) (sym (key .0))
+          (subst (λ r. Claim o h (hall .db) (entryPart (T + 1) (closedAll (kept-by (isOf (T + 1)) (books .rows)) (T + 1) (was .0))) (λ z. Gives p z (was .0 .key .sheet) (was .0 .key .argument) r)) (sym (key .1)) claim));
+      txs = core .txs;
+      givens = core .givens;
+    } in
     core-append p o h e hall′ w (gives-nothing p o h e (books .next) (books .txs) none) core′
 
 -- a sweep
@@ -338,9 +371,10 @@ gone ms db after (calls.UnpinsEach.none d) = record { latest = refl; pins = λ n
 gone ms db after (calls.UnpinsEach.more m rest d between a one all) =
     let ih = gone rest between a all in
     record {
-        latest = ih .latest ∙ one .latest;
-        pins = λ n. let x = ih .pins n in let y = one .pins n in x ∙ ap (λ b. b && not (among n rest)) y ∙ both (among n (d .pins)) (eqb n m) (among n rest);
-        states = λ n t k hd. ih .states n t k hd ∙ one .states n t k (⊎-elim (λ e. or-left _ _ (eq-eqb n (between .latest) (eqb-true n (a .latest) e ∙ ih .latest))) (λ p. or-right (eqb n (between .latest)) (among n (between .pins)) (and-parts (among n (between .pins)) (not (among n rest)) (sym (ih .pins n) ∙ p) .0)) (or-cases _ _ hd)) }
+      latest = ih .latest ∙ one .latest;
+      pins = λ n. let x = ih .pins n in let y = one .pins n in x ∙ ap (λ b. b && not (among n rest)) y ∙ both (among n (d .pins)) (eqb n m) (among n rest);
+      states = λ n t k hd. ih .states n t k hd ∙ one .states n t k (⊎-elim (λ e. or-left _ _ (eq-eqb n (between .latest) (eqb-true n (a .latest) e ∙ ih .latest))) (λ p. or-right (eqb n (between .latest)) (among n (between .pins)) (and-parts (among n (between .pins)) (not (among n rest)) (sym (ih .pins n) ∙ p) .0)) (or-cases _ _ hd));
+    }
 
 old-unused : (now age : ℕ) (pin : Pin) → isOld now age pin ≡ true → pin .uses ≡ 0
 old-unused now age pin e = eqb-true (pin .uses) 0 (and-parts _ _ e .0)
@@ -354,15 +388,15 @@ split-moments : (f : Pin → Bool) (pins : List Pin) (m : ℕ) → distinct (mom
 split-moments f pins m d =
     ⊎-elim
     (λ (a : among m (moments pins) ≡ true).
-        let w = pin-of m pins a in
-        let x = kept-moments f pins (w .0) d (w .1) in
-        let y = kept-moments (λ pin. not (f pin)) pins (w .0) d (w .1) in
-        let x′ : among m (moments (kept-by f pins)) ≡ f (w .0) = ap (λ k. among k (moments (kept-by f pins))) (sym (w .2)) ∙ x in
-        let y′ : among m (moments (kept-by (λ pin. not (f pin)) pins)) ≡ not (f (w .0)) = ap (λ k. among k (moments (kept-by (λ pin. not (f pin)) pins))) (sym (w .2)) ∙ y in
-        ap (λ b. b && not (among m (moments (kept-by f pins)))) a ∙ ap not x′ ∙ sym y′)
+    let w = pin-of m pins a in
+    let x = kept-moments f pins (w .0) d (w .1) in
+    let y = kept-moments (λ pin. not (f pin)) pins (w .0) d (w .1) in
+    let x′ : among m (moments (kept-by f pins)) ≡ f (w .0) = ap (λ k. among k (moments (kept-by f pins))) (sym (w .2)) ∙ x in
+    let y′ : among m (moments (kept-by (λ pin. not (f pin)) pins)) ≡ not (f (w .0)) = ap (λ k. among k (moments (kept-by (λ pin. not (f pin)) pins))) (sym (w .2)) ∙ y in
+    ap (λ b. b && not (among m (moments (kept-by f pins)))) a ∙ ap not x′ ∙ sym y′)
     (λ (a : among m (moments pins) ≡ false).
-        let z : among m (moments (kept-by (λ pin. not (f pin)) pins)) ≡ false = ⊎-elim (λ (e : among m (moments (kept-by (λ pin. not (f pin)) pins)) ≡ true). absurd (both-ways (among m (moments pins)) a (some-moments (λ pin. not (f pin)) pins m e))) (λ (e : among m (moments (kept-by (λ pin. not (f pin)) pins)) ≡ false). e) (cases-bool (among m (moments (kept-by (λ pin. not (f pin)) pins)))) in
-        ap (λ b. b && not (among m (moments (kept-by f pins)))) a ∙ sym z)
+    let z : among m (moments (kept-by (λ pin. not (f pin)) pins)) ≡ false = ⊎-elim (λ (e : among m (moments (kept-by (λ pin. not (f pin)) pins)) ≡ true). absurd (both-ways (among m (moments pins)) a (some-moments (λ pin. not (f pin)) pins m e))) (λ (e : among m (moments (kept-by (λ pin. not (f pin)) pins)) ≡ false). e) (cases-bool (among m (moments (kept-by (λ pin. not (f pin)) pins)))) in
+    ap (λ b. b && not (among m (moments (kept-by f pins)))) a ∙ sym z)
     (cases-bool (among m (moments pins)))
 
 pub sweep-core : (p : Rules) (o : Origin) (h : List Event) (e : Event) (now age : ℕ) (hall : Hall) (db : Db) (entries : List Entry) (lowest : ℕ) → Core p o h hall → Sound db → isWrite (e .reply) ≡ false → e .given ≡ None
@@ -375,19 +409,19 @@ sweep-core p o h e now age hall db entries lowest core sound w none unpins drops
     let went = gone (moments (kept-by (isOld now age) pins)) (hall .db) db unpins in
     let pins′ = kept-by (λ pin. not (isOld now age pin)) pins in
     let fewer : (n : ℕ) → held db n ≡ true → held (hall .db) n ≡ true =
-        λ n hd. ⊎-elim (λ x. or-left _ _ (eq-eqb n (hall .db .latest) (eqb-true n (db .latest) x ∙ went .latest))) (λ x. or-right (eqb n (hall .db .latest)) (among n (hall .db .pins)) (and-parts (among n (hall .db .pins)) (not (among n (moments (kept-by (isOld now age) pins)))) (sym (went .pins n) ∙ x) .0)) (or-cases _ _ hd) in
+    λ n hd. ⊎-elim (λ x. or-left _ _ (eq-eqb n (hall .db .latest) (eqb-true n (db .latest) x ∙ went .latest))) (λ x. or-right (eqb n (hall .db .latest)) (among n (hall .db .pins)) (and-parts (among n (hall .db .pins)) (not (among n (moments (kept-by (isOld now age) pins)))) (sym (went .pins n) ∙ x) .0)) (or-cases _ _ hd) in
     let core₁ = core-change p o h hall db pins′ (books .txs) core (went .latest) fewer sound (went .states)
-        (λ n. went .pins n ∙ ap (λ b. b && not (among n (moments (kept-by (isOld now age) pins)))) (core .same n) ∙ split-moments (isOld now age) pins n (core .once))
-        (distinct-some (λ pin. not (isOld now age pin)) pins (core .once))
-        (λ pin a. core .uses pin (kept-among (λ pin. not (isOld now age pin)) pin pins a .0))
-        (core .apart)
-        (λ t a m b c.
-            let x = pin-of m pins (core .txs t a .pinned m b) in
-            let u = core .uses (x .0) (x .1) in
-            let some = holders-some m t (books .txs) a b in
-            let young : isOld now age (x .0) ≡ false =
-                ⊎-elim (λ (y : isOld now age (x .0) ≡ true). let z = old-unused now age (x .0) y in let v = ap (λ k. holders k (books .txs)) (x .2) in absurd (omega arith)) (λ (y : isOld now age (x .0) ≡ false). y) (cases-bool (isOld now age (x .0))) in
-            ap (λ k. among k (moments pins′)) (sym (x .2)) ∙ pin-moment (x .0) pins′ (members.among-kept (λ pin. not (isOld now age pin)) (x .0) pins (x .1) (not-from-false _ young)))
-        (λ t a. inr a) in
+    (λ n. went .pins n ∙ ap (λ b. b && not (among n (moments (kept-by (isOld now age) pins)))) (core .same n) ∙ split-moments (isOld now age) pins n (core .once))
+    (distinct-some (λ pin. not (isOld now age pin)) pins (core .once))
+    (λ pin a. core .uses pin (kept-among (λ pin. not (isOld now age pin)) pin pins a .0))
+    (core .apart)
+    (λ t a m b c.
+    let x = pin-of m pins (core .txs t a .pinned m b) in
+    let u = core .uses (x .0) (x .1) in
+    let some = holders-some m t (books .txs) a b in
+    let young : isOld now age (x .0) ≡ false =
+    ⊎-elim (λ (y : isOld now age (x .0) ≡ true). let z = old-unused now age (x .0) y in let v = ap (λ k. holders k (books .txs)) (x .2) in absurd (omega arith)) (λ (y : isOld now age (x .0) ≡ false). y) (cases-bool (isOld now age (x .0))) in
+    ap (λ k. among k (moments pins′)) (sym (x .2)) ∙ pin-moment (x .0) pins′ (members.among-kept (λ pin. not (isOld now age pin)) (x .0) pins (x .1) (not-from-false _ young)))
+    (λ t a. inr a) in
     let core₂ = core-entries p o h (record { db = db; entries = hall .entries; books = withTransactions pins′ (books .txs) books }) entries core₁ (λ x a. core₁ .entries x (drops .only x a .0)) in
     core-append p o h e (record { db = db; entries = entries; books = withTransactions pins′ (books .txs) books }) w (gives-nothing p o h e (books .next) (books .txs) none) core₂

@@ -68,8 +68,13 @@ begun now limit books = record { number = books .next; present = true; set = fre
 
 abbrev pub afterBegin : ℕ → ℕ → Books → Books
 afterBegin now limit books = record {
-    next = books .next + 1; pins = map (gained now limit) (books .pins); txs = begun now limit books ∷ books .txs;
-    delivered = books .delivered; size = books .size; rows = books .rows }
+  next = books .next + 1;
+  pins = map (gained now limit) (books .pins);
+  txs = begun now limit books ∷ books .txs;
+  delivered = books .delivered;
+  size = books .size;
+  rows = books .rows;
+}
 
 -- frames are open
 abbrev pub hasFrames : Transaction → Bool
@@ -138,8 +143,10 @@ went rules frame reading = record { point = after (rules .turn (frame .point)) (
 -- a frame is handed the reading of the sheet that it called
 abbrev pub handed : Reading → Frame → Frame
 handed reading frame = record {
-    point = record { sheet = frame .point .sheet; argument = frame .point .argument; stage = frame .point .stage; carry = frame .point .carry; last = reading };
-    answers = frame .answers; part = frame .part }
+  point = record { sheet = frame .point .sheet; argument = frame .point .argument; stage = frame .point .stage; carry = frame .point .carry; last = reading };
+  answers = frame .answers;
+  part = frame .part;
+}
 
 abbrev pub keyOf : ℕ → ℕ → Key
 keyOf sheet argument = record { sheet = sheet; argument = argument }
@@ -204,103 +211,103 @@ lowestHeld latest (m ∷ ms) = min m (lowestHeld latest ms)
 pub data Does (rules : Rules) (hall : Hall) : Call → List Change → Reply → Option Given → Hall → Type 0 where
   refused : (call : Call) (changes : List Change) (fault : Fault) → refusalOf rules hall changes call ≡ Some fault → Does rules hall call changes (Refused fault) None hall
   began : (now limit : ℕ) → beginRefusal limit (hall .books) ≡ None
-    → Does rules hall (Begin now limit) [] (Began (hall .books .next) (length (freshMoments now limit (hall .books .pins)))) None
+      → Does rules hall (Begin now limit) [] (Began (hall .books .next) (length (freshMoments now limit (hall .books .pins)))) None
       (record { db = hall .db; entries = hall .entries; books = afterBegin now limit (hall .books) })
   hit : (number sheet argument : ℕ) (tx : Transaction) (entry : Entry) (entries : List Entry)
-    → find number (hall .books .txs) ≡ Some tx → hasFrames tx ≡ false → sheet < rules .sheets
-    → Looks (hall .entries) (keyOf sheet argument) (tx .set) (hall .books .delivered) (Some entry) → Same (hall .entries) entries
-    → Does rules hall (Sheet number sheet argument) [] (Read (entry .reading)) (Some (record { number = number; question = ofSheet sheet argument; reading = entry .reading }))
+      → find number (hall .books .txs) ≡ Some tx → hasFrames tx ≡ false → sheet < rules .sheets
+      → Looks (hall .entries) (keyOf sheet argument) (tx .set) (hall .books .delivered) (Some entry) → Same (hall .entries) entries
+      → Does rules hall (Sheet number sheet argument) [] (Read (entry .reading)) (Some (record { number = number; question = ofSheet sheet argument; reading = entry .reading }))
       (record { db = hall .db; entries = entries; books = withTx (narrowed (hitPart (hall .books .delivered) entry) tx) (hall .books .pins) (hall .books) })
   miss : (number sheet argument : ℕ) (tx : Transaction) (entries : List Entry)
-    → find number (hall .books .txs) ≡ Some tx → hasFrames tx ≡ false → sheet < rules .sheets
-    → Looks (hall .entries) (keyOf sheet argument) (tx .set) (hall .books .delivered) None → Same (hall .entries) entries
-    → Does rules hall (Sheet number sheet argument) [] Open None
+      → find number (hall .books .txs) ≡ Some tx → hasFrames tx ≡ false → sheet < rules .sheets
+      → Looks (hall .entries) (keyOf sheet argument) (tx .set) (hall .books .delivered) None → Same (hall .entries) entries
+      → Does rules hall (Sheet number sheet argument) [] Open None
       (record { db = hall .db; entries = entries; books = withTx (withFrames (freshFrame sheet argument ∷ []) tx) (hall .books .pins) (hall .books) })
   queried : (number now m : ℕ) (query : Query) (tx tx′ : Transaction) (db : Db) (pins : List Pin) (answer : Answer)
-    → find number (hall .books .txs) ≡ Some tx → hasFrames tx ≡ false → knownTable (tableOf query) ≡ true
-    → Picks (hall .db) (hall .books .pins) tx now m db pins tx′ → Asks db m query (Ok answer)
-    → Does rules hall (Directly number query now) [] (Read (answer .reading)) (Some (record { number = number; question = ofQuery query; reading = answer .reading }))
+      → find number (hall .books .txs) ≡ Some tx → hasFrames tx ≡ false → knownTable (tableOf query) ≡ true
+      → Picks (hall .db) (hall .books .pins) tx now m db pins tx′ → Asks db m query (Ok answer)
+      → Does rules hall (Directly number query now) [] (Read (answer .reading)) (Some (record { number = number; question = ofQuery query; reading = answer .reading }))
       (record { db = db; entries = hall .entries; books = withTx (narrowed (answerPart answer) tx′) pins (hall .books) })
   queryNoPin : (number now : ℕ) (query : Query) (tx : Transaction)
-    → find number (hall .books .txs) ≡ Some tx → hasFrames tx ≡ false → knownTable (tableOf query) ≡ true
-    → noPin (hall .db) (hall .books .pins) tx now ≡ true
-    → Does rules hall (Directly number query now) [] (Refused (NoPin 0)) None hall
+      → find number (hall .books .txs) ≡ Some tx → hasFrames tx ≡ false → knownTable (tableOf query) ≡ true
+      → noPin (hall .db) (hall .books .pins) tx now ≡ true
+      → Does rules hall (Directly number query now) [] (Refused (NoPin 0)) None hall
   queryNotHeld : (number now m : ℕ) (query : Query) (tx : Transaction)
-    → find number (hall .books .txs) ≡ Some tx → hasFrames tx ≡ false → knownTable (tableOf query) ≡ true
-    → Picks (hall .db) (hall .books .pins) tx now m (hall .db) (hall .books .pins) tx → held (hall .db) m ≡ false
-    → Does rules hall (Directly number query now) [] (Refused (NotHeld 0)) None hall
+      → find number (hall .books .txs) ≡ Some tx → hasFrames tx ≡ false → knownTable (tableOf query) ≡ true
+      → Picks (hall .db) (hall .books .pins) tx now m (hall .db) (hall .books .pins) tx → held (hall .db) m ≡ false
+      → Does rules hall (Directly number query now) [] (Refused (NotHeld 0)) None hall
   neverDone : (number now : ℕ) (tx : Transaction) (frame : Frame) (frames : List Frame)
-    → find number (hall .books .txs) ≡ Some tx → tx .frames ≡ frame ∷ frames → lastAnswer frame ≡ true
-    → ((reading : Reading) → rules .turn (frame .point) .ask ≡ Done reading → ⊥)
-    → Does rules hall (Step number now) [] (Refused (NeverDone (length (tx .frames)))) None (dropped tx hall)
+      → find number (hall .books .txs) ≡ Some tx → tx .frames ≡ frame ∷ frames → lastAnswer frame ≡ true
+      → ((reading : Reading) → rules .turn (frame .point) .ask ≡ Done reading → ⊥)
+      → Does rules hall (Step number now) [] (Refused (NeverDone (length (tx .frames)))) None (dropped tx hall)
   stepTable : (number now : ℕ) (query : Query) (tx : Transaction) (frame : Frame) (frames : List Frame)
-    → find number (hall .books .txs) ≡ Some tx → tx .frames ≡ frame ∷ frames → lastAnswer frame ≡ false
-    → rules .turn (frame .point) .ask ≡ Asked query → knownTable (tableOf query) ≡ false
-    → Does rules hall (Step number now) [] (Refused (RecipeTable (length (tx .frames)))) None (dropped tx hall)
+      → find number (hall .books .txs) ≡ Some tx → tx .frames ≡ frame ∷ frames → lastAnswer frame ≡ false
+      → rules .turn (frame .point) .ask ≡ Asked query → knownTable (tableOf query) ≡ false
+      → Does rules hall (Step number now) [] (Refused (RecipeTable (length (tx .frames)))) None (dropped tx hall)
   stepNoPin : (number now : ℕ) (query : Query) (tx : Transaction) (frame : Frame) (frames : List Frame)
-    → find number (hall .books .txs) ≡ Some tx → tx .frames ≡ frame ∷ frames → lastAnswer frame ≡ false
-    → rules .turn (frame .point) .ask ≡ Asked query → knownTable (tableOf query) ≡ true
-    → noPin (hall .db) (hall .books .pins) tx now ≡ true
-    → Does rules hall (Step number now) [] (Refused (NoPin (length (tx .frames)))) None (dropped tx hall)
+      → find number (hall .books .txs) ≡ Some tx → tx .frames ≡ frame ∷ frames → lastAnswer frame ≡ false
+      → rules .turn (frame .point) .ask ≡ Asked query → knownTable (tableOf query) ≡ true
+      → noPin (hall .db) (hall .books .pins) tx now ≡ true
+      → Does rules hall (Step number now) [] (Refused (NoPin (length (tx .frames)))) None (dropped tx hall)
   stepNotHeld : (number now m : ℕ) (query : Query) (tx : Transaction) (frame : Frame) (frames : List Frame)
-    → find number (hall .books .txs) ≡ Some tx → tx .frames ≡ frame ∷ frames → lastAnswer frame ≡ false
-    → rules .turn (frame .point) .ask ≡ Asked query → knownTable (tableOf query) ≡ true
-    → Picks (hall .db) (hall .books .pins) tx now m (hall .db) (hall .books .pins) tx → held (hall .db) m ≡ false
-    → Does rules hall (Step number now) [] (Refused (NotHeld (length (tx .frames)))) None (dropped tx hall)
+      → find number (hall .books .txs) ≡ Some tx → tx .frames ≡ frame ∷ frames → lastAnswer frame ≡ false
+      → rules .turn (frame .point) .ask ≡ Asked query → knownTable (tableOf query) ≡ true
+      → Picks (hall .db) (hall .books .pins) tx now m (hall .db) (hall .books .pins) tx → held (hall .db) m ≡ false
+      → Does rules hall (Step number now) [] (Refused (NotHeld (length (tx .frames)))) None (dropped tx hall)
   stepQuery : (number now m : ℕ) (query : Query) (tx tx′ : Transaction) (frame : Frame) (frames : List Frame) (db : Db) (pins : List Pin) (answer : Answer)
-    → find number (hall .books .txs) ≡ Some tx → tx .frames ≡ frame ∷ frames → lastAnswer frame ≡ false
-    → rules .turn (frame .point) .ask ≡ Asked query → knownTable (tableOf query) ≡ true
-    → Picks (hall .db) (hall .books .pins) tx now m db pins tx′ → Asks db m query (Ok answer)
-    → Does rules hall (Step number now) [] Open (Some (record { number = number; question = ofQuery query; reading = answer .reading }))
+      → find number (hall .books .txs) ≡ Some tx → tx .frames ≡ frame ∷ frames → lastAnswer frame ≡ false
+      → rules .turn (frame .point) .ask ≡ Asked query → knownTable (tableOf query) ≡ true
+      → Picks (hall .db) (hall .books .pins) tx now m db pins tx′ → Asks db m query (Ok answer)
+      → Does rules hall (Step number now) [] Open (Some (record { number = number; question = ofQuery query; reading = answer .reading }))
       (record { db = db; entries = hall .entries; books = withTx (narrowed (answerPart answer) (withFrames (went rules frame (answer .reading) ∷ frames) tx′)) pins (hall .books) })
   stepUnknown : (number now sheet argument : ℕ) (tx : Transaction) (frame : Frame) (frames : List Frame)
-    → find number (hall .books .txs) ≡ Some tx → tx .frames ≡ frame ∷ frames → lastAnswer frame ≡ false
-    → rules .turn (frame .point) .ask ≡ Called sheet argument → rules .sheets ≤ sheet
-    → Does rules hall (Step number now) [] (Refused (SheetUnknown (length (tx .frames)))) None (dropped tx hall)
+      → find number (hall .books .txs) ≡ Some tx → tx .frames ≡ frame ∷ frames → lastAnswer frame ≡ false
+      → rules .turn (frame .point) .ask ≡ Called sheet argument → rules .sheets ≤ sheet
+      → Does rules hall (Step number now) [] (Refused (SheetUnknown (length (tx .frames)))) None (dropped tx hall)
   stepHit : (number now sheet argument : ℕ) (tx : Transaction) (frame : Frame) (frames : List Frame) (entry : Entry) (entries : List Entry)
-    → find number (hall .books .txs) ≡ Some tx → tx .frames ≡ frame ∷ frames → lastAnswer frame ≡ false
-    → rules .turn (frame .point) .ask ≡ Called sheet argument → sheet < rules .sheets
-    → Looks (hall .entries) (keyOf sheet argument) (tx .set) (hall .books .delivered) (Some entry) → Same (hall .entries) entries
-    → Does rules hall (Step number now) [] Open (Some (record { number = number; question = ofSheet sheet argument; reading = entry .reading }))
+      → find number (hall .books .txs) ≡ Some tx → tx .frames ≡ frame ∷ frames → lastAnswer frame ≡ false
+      → rules .turn (frame .point) .ask ≡ Called sheet argument → sheet < rules .sheets
+      → Looks (hall .entries) (keyOf sheet argument) (tx .set) (hall .books .delivered) (Some entry) → Same (hall .entries) entries
+      → Does rules hall (Step number now) [] Open (Some (record { number = number; question = ofSheet sheet argument; reading = entry .reading }))
       (record { db = hall .db; entries = entries; books = withTx (narrowed (hitPart (hall .books .delivered) entry) (withFrames (went rules frame (entry .reading) ∷ frames) tx)) (hall .books .pins) (hall .books) })
   stepDeep : (number now sheet argument : ℕ) (tx : Transaction) (frame : Frame) (frames : List Frame) (entries : List Entry)
-    → find number (hall .books .txs) ≡ Some tx → tx .frames ≡ frame ∷ frames → lastAnswer frame ≡ false
-    → rules .turn (frame .point) .ask ≡ Called sheet argument → sheet < rules .sheets
-    → Looks (hall .entries) (keyOf sheet argument) (tx .set) (hall .books .delivered) None → Same (hall .entries) entries → 8 ≤ length (tx .frames)
-    → Does rules hall (Step number now) [] (Refused (TooDeep (length (tx .frames)))) None
+      → find number (hall .books .txs) ≡ Some tx → tx .frames ≡ frame ∷ frames → lastAnswer frame ≡ false
+      → rules .turn (frame .point) .ask ≡ Called sheet argument → sheet < rules .sheets
+      → Looks (hall .entries) (keyOf sheet argument) (tx .set) (hall .books .delivered) None → Same (hall .entries) entries → 8 ≤ length (tx .frames)
+      → Does rules hall (Step number now) [] (Refused (TooDeep (length (tx .frames)))) None
       (record { db = hall .db; entries = entries; books = withTx (withFrames [] tx) (hall .books .pins) (hall .books) })
   stepMiss : (number now sheet argument : ℕ) (tx : Transaction) (frame : Frame) (frames : List Frame) (entries : List Entry)
-    → find number (hall .books .txs) ≡ Some tx → tx .frames ≡ frame ∷ frames → lastAnswer frame ≡ false
-    → rules .turn (frame .point) .ask ≡ Called sheet argument → sheet < rules .sheets
-    → Looks (hall .entries) (keyOf sheet argument) (tx .set) (hall .books .delivered) None → Same (hall .entries) entries → length (tx .frames) < 8
-    → Does rules hall (Step number now) [] Open None
+      → find number (hall .books .txs) ≡ Some tx → tx .frames ≡ frame ∷ frames → lastAnswer frame ≡ false
+      → rules .turn (frame .point) .ask ≡ Called sheet argument → sheet < rules .sheets
+      → Looks (hall .entries) (keyOf sheet argument) (tx .set) (hall .books .delivered) None → Same (hall .entries) entries → length (tx .frames) < 8
+      → Does rules hall (Step number now) [] Open None
       (record { db = hall .db; entries = entries; books = withTx (withFrames (freshFrame sheet argument ∷ went rules frame (frame .point .last) ∷ frames) tx) (hall .books .pins) (hall .books) })
   stepDone : (number now : ℕ) (reading : Reading) (tx : Transaction) (frame below : Frame) (frames : List Frame) (entries : List Entry)
-    → find number (hall .books .txs) ≡ Some tx → tx .frames ≡ frame ∷ below ∷ frames → rules .turn (frame .point) .ask ≡ Done reading
-    → Enters (hall .entries) (entering (hall .books .delivered) frame reading) entries
-    → Does rules hall (Step number now) [] Open (Some (record { number = number; question = ofSheet (frame .point .sheet) (frame .point .argument); reading = reading }))
+      → find number (hall .books .txs) ≡ Some tx → tx .frames ≡ frame ∷ below ∷ frames → rules .turn (frame .point) .ask ≡ Done reading
+      → Enters (hall .entries) (entering (hall .books .delivered) frame reading) entries
+      → Does rules hall (Step number now) [] Open (Some (record { number = number; question = ofSheet (frame .point .sheet) (frame .point .argument); reading = reading }))
       (record { db = hall .db; entries = entries; books = withTx (withFrames (handed reading below ∷ frames) tx) (hall .books .pins) (hall .books) })
   stepLast : (number now : ℕ) (reading : Reading) (tx : Transaction) (frame : Frame) (entries : List Entry)
-    → find number (hall .books .txs) ≡ Some tx → tx .frames ≡ frame ∷ [] → rules .turn (frame .point) .ask ≡ Done reading
-    → Enters (hall .entries) (entering (hall .books .delivered) frame reading) entries
-    → Does rules hall (Step number now) [] (Read reading) (Some (record { number = number; question = ofSheet (frame .point .sheet) (frame .point .argument); reading = reading }))
+      → find number (hall .books .txs) ≡ Some tx → tx .frames ≡ frame ∷ [] → rules .turn (frame .point) .ask ≡ Done reading
+      → Enters (hall .entries) (entering (hall .books .delivered) frame reading) entries
+      → Does rules hall (Step number now) [] (Read reading) (Some (record { number = number; question = ofSheet (frame .point .sheet) (frame .point .argument); reading = reading }))
       (record { db = hall .db; entries = entries; books = withTx (withFrames [] tx) (hall .books .pins) (hall .books) })
   committed : (number : ℕ) (tx : Transaction) → find number (hall .books .txs) ≡ Some tx
-    → Does rules hall (Commit number) [] (Committed (committedAt (latestTold (hall .books .delivered) (hall .books .rows)) (newestOf (tx .set)))) None
+      → Does rules hall (Commit number) [] (Committed (committedAt (latestTold (hall .books .delivered) (hall .books .rows)) (newestOf (tx .set)))) None
       (record { db = hall .db; entries = hall .entries; books = afterEnd tx (hall .books) })
   aborted : (number : ℕ) (tx : Transaction) → find number (hall .books .txs) ≡ Some tx
-    → Does rules hall (Abort number) [] Aborted None (record { db = hall .db; entries = hall .entries; books = afterEnd tx (hall .books) })
+      → Does rules hall (Abort number) [] Aborted None (record { db = hall .db; entries = hall .entries; books = afterEnd tx (hall .books) })
   wrote : (changes : List Change) (moment : ℕ) (db : Db) → writeRefusal (hall .db) (hall .books) changes ≡ None → Written (hall .db) changes moment db
-    → Does rules hall Write changes (Wrote moment) None
+      → Does rules hall Write changes (Wrote moment) None
       (record { db = db; entries = hall .entries; books = withStream (hall .books .delivered) (hall .books .rows ++ rowsOfWrite moment changes) (hall .books) })
   delivered : (row : Row) (rows : List Row) (entries : List Entry) → hall .books .rows ≡ row ∷ rows
-    → ClosesAll (hall .books .delivered + 1) (kept-by (isOf (hall .books .delivered + 1)) (hall .books .rows)) (hall .entries) entries
-    → Does rules hall Deliver [] (Delivered (hall .books .delivered + 1)) None
+      → ClosesAll (hall .books .delivered + 1) (kept-by (isOf (hall .books .delivered + 1)) (hall .books .rows)) (hall .entries) entries
+      → Does rules hall Deliver [] (Delivered (hall .books .delivered + 1)) None
       (record { db = hall .db; entries = entries; books = withStream (hall .books .delivered + 1) (kept-by (λ other. not (isOf (hall .books .delivered + 1) other)) (hall .books .rows)) (hall .books) })
   swept : (now age : ℕ) (db : Db) (entries : List Entry)
-    → UnpinsEach (moments (kept-by (isOld now age) (hall .books .pins))) (hall .db) db
-    → Drops (hall .entries) (lowestHeld (hall .db .latest) (moments (kept-by (λ pin. not (isOld now age pin)) (hall .books .pins)))) entries
-    → Does rules hall (Sweep now age) [] (Swept (length (kept-by (isOld now age) (hall .books .pins)))) None
+      → UnpinsEach (moments (kept-by (isOld now age) (hall .books .pins))) (hall .db) db
+      → Drops (hall .entries) (lowestHeld (hall .db .latest) (moments (kept-by (λ pin. not (isOld now age pin)) (hall .books .pins)))) entries
+      → Does rules hall (Sweep now age) [] (Swept (length (kept-by (isOld now age) (hall .books .pins)))) None
       (record { db = db; entries = entries; books = withTransactions (kept-by (λ pin. not (isOld now age pin)) (hall .books .pins)) (hall .books .txs) (hall .books) })
 
 -- Making: all is unpinned, the cache is cleared, T is the latest moment; the first number is 1 to 4,294,967,295, the stream has 1 to 4,096 rows

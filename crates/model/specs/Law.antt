@@ -117,7 +117,7 @@ holders m txs = length (kept-by (λ tx. among m (tx .holds)) txs)
 pub record Law (rules : Rules) (o : Origin) (trace : List Event) (hall : Hall) : Type 0 where
   -- every reading given to an open transaction is right at each moment of its pin set
   pub readings : (tx : Transaction) → Among tx (hall .books .txs) → (given : Given) → GivenIn given trace → given .number ≡ tx .number
-    → (m : ℕ) → among m (tx .set) ≡ true → Right rules (recordsAt o trace m) (given .question) (given .reading)
+      → (m : ℕ) → among m (tx .set) ≡ true → Right rules (recordsAt o trace m) (given .question) (given .reading)
   -- its pin set holds the present or a moment
   pub sets : (tx : Transaction) → Among tx (hall .books .txs) → (tx .present ≡ true) ⊎ ((m : ℕ) × (among m (tx .set) ≡ true))
   -- each moment in it is pinned at the database

@@ -3,3 +3,4 @@ pub mod Rules
 pub mod Calls
 pub mod Traces
 pub mod Law
+pub mod Worked

@@ -77,12 +77,12 @@ withLatest m tx = record { number = tx .number; present = false; set = added m (
 pub data Picks (db : Db) (pins : List Pin) (tx : Transaction) (now : ℕ) : ℕ → Db → List Pin → Transaction → Type 0 where
   taken : (m : ℕ) → wantsPresent now pins tx ≡ false → newestOf (tx .set) ≡ Some m → Picks db pins tx now m db pins tx
   pinned : (db′ : Db) → wantsPresent now pins tx ≡ true → hasRoom (db .latest) pins ≡ true → Pinned db (db .latest) db′
-    → Picks db pins tx now (db .latest) db′ (pinsWith (db .latest) now (among (db .latest) (tx .holds)) pins) (withLatest (db .latest) tx)
+      → Picks db pins tx now (db .latest) db′ (pinsWith (db .latest) now (among (db .latest) (tx .holds)) pins) (withLatest (db .latest) tx)
   gaveUp : (u : ℕ) (db₁ db′ : Db) → wantsPresent now pins tx ≡ true → hasRoom (db .latest) pins ≡ false → lowestUnused pins ≡ Some u
-    → Unpins db u db₁ → Pinned db₁ (db .latest) db′
-    → Picks db pins tx now (db .latest) db′ (pinsWith (db .latest) now (among (db .latest) (tx .holds)) (withoutPin u pins)) (withLatest (db .latest) tx)
+      → Unpins db u db₁ → Pinned db₁ (db .latest) db′
+      → Picks db pins tx now (db .latest) db′ (pinsWith (db .latest) now (among (db .latest) (tx .holds)) (withoutPin u pins)) (withLatest (db .latest) tx)
   kept : (m : ℕ) → wantsPresent now pins tx ≡ true → hasRoom (db .latest) pins ≡ false → lowestUnused pins ≡ None → newestOf (tx .set) ≡ Some m
-    → Picks db pins tx now m db pins tx
+      → Picks db pins tx now m db pins tx
 
 abbrev pub noneOf : Option ℕ → Bool
 noneOf None = true
@@ -116,8 +116,9 @@ bearing (Open t) tags = tags
 -- what two parts have in common
 abbrev pub meet : Part → Part → Part
 meet a b = record {
-    interval = record { first = max (a .interval .first) (b .interval .first); until = fitting (meetUntil (a .interval .until) (b .interval .until)) (joinTags (a .tags) (b .tags)) };
-    tags = bearing (fitting (meetUntil (a .interval .until) (b .interval .until)) (joinTags (a .tags) (b .tags))) (joinTags (a .tags) (b .tags)) }
+  interval = record { first = max (a .interval .first) (b .interval .first); until = fitting (meetUntil (a .interval .until) (b .interval .until)) (joinTags (a .tags) (b .tags)) };
+  tags = bearing (fitting (meetUntil (a .interval .until) (b .interval .until)) (joinTags (a .tags) (b .tags))) (joinTags (a .tags) (b .tags));
+}
 
 -- an open hit has the last delivered message as its through
 abbrev pub throughT : ℕ → Until → Until
@@ -146,5 +147,6 @@ settledUntil T (Open t) = cond (leb T t) (Open t) (Ended (t + 1))
 
 abbrev pub settled : ℕ → Part → Part
 settled T part = record {
-    interval = record { first = part .interval .first; until = settledUntil T (part .interval .until) };
-    tags = bearing (settledUntil T (part .interval .until)) (part .tags) }
+  interval = record { first = part .interval .first; until = settledUntil T (part .interval .until) };
+  tags = bearing (settledUntil T (part .interval .until)) (part .tags);
+}

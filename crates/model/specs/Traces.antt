@@ -62,6 +62,6 @@ rowsOf o (event ∷ trace) = cond (isWrite (event .reply)) (rowsOf o trace ++ ro
 -- a hall from its making, after a list of calls; what a database means holds of it throughout
 pub data Lives (rules : Rules) (o : Origin) : List Event → Hall → Type 0 where
   made : (db : Db) (first size : ℕ) (hall : Hall) → Makes db first size hall → Sound (hall .db)
-    → o .moment ≡ db .latest → ((table key : ℕ) → o .records table key ≡ db .at (db .latest) table key) → Lives rules o [] hall
+      → o .moment ≡ db .latest → ((table key : ℕ) → o .records table key ≡ db .at (db .latest) table key) → Lives rules o [] hall
   then : (trace : List Event) (hall hall′ : Hall) (event : Event) → Lives rules o trace hall
-    → Does rules hall (event .call) (event .changes) (event .reply) (event .given) hall′ → Sound (hall′ .db) → Lives rules o (event ∷ trace) hall′
+      → Does rules hall (event .call) (event .changes) (event .reply) (event .given) hall′ → Sound (hall′ .db) → Lives rules o (event ∷ trace) hall′

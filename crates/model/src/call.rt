@@ -7,15 +7,36 @@ use terms::Reading;
 // A call, but for the changes of a write, which stand in a list of their own.
 #[derive(Clone, Copy)]
 pub enum Call {
-    Begin { now: u64, limit: u64 },
-    Sheet { number: u64, sheet: u8, argument: u32 },
-    Step { number: u64, now: u64 },
-    Query { number: u64, query: Query, now: u64 },
-    Commit { number: u64 },
-    Abort { number: u64 },
+    Begin {
+        now: u64,
+        limit: u64,
+    },
+    Sheet {
+        number: u64,
+        sheet: u8,
+        argument: u32,
+    },
+    Step {
+        number: u64,
+        now: u64,
+    },
+    Query {
+        number: u64,
+        query: Query,
+        now: u64,
+    },
+    Commit {
+        number: u64,
+    },
+    Abort {
+        number: u64,
+    },
     Write,
     Deliver,
-    Sweep { now: u64, age: u64 },
+    Sweep {
+        now: u64,
+        age: u64,
+    },
 }
 
 #[derive(Clone, Copy)]

@@ -49,19 +49,21 @@ after-call p s e n d q r sh a v ts is ends (call {depth = c} {tags = us} {inner 
 
 pub queried : (p : Rules) (s : Records) (depth sheet argument used : ℕ) (q : Point) (k : Query) (v : Reading) → used < 32 → p .turn q .ask ≡ Asked k → knownTable (tableOf k) ≡ true → Reads s k v → At p s depth sheet argument used q → At p s depth sheet argument (used + 1) (after (p .turn q) q v)
 queried p s depth sheet argument used q k v h is known reads at = record {
-    there = at .there;
-    onward = λ e r x.
-        let y = subst (λ n. Ends p s e n q r) (fewer used h) (at .onward e r x) in
-        after-query p s e (32 - (used + 1)) q r k v (y .0) is reads (y .1);
-    back = λ r x. at .back r (subst (λ n. Ends p s depth n q r) (sym (fewer used h)) (queryTag k ∷ x .0, query k v is known reads (x .1))) }
+  there = at .there;
+  onward = λ e r x.
+      let y = subst (λ n. Ends p s e n q r) (fewer used h) (at .onward e r x) in
+      after-query p s e (32 - (used + 1)) q r k v (y .0) is reads (y .1);
+  back = λ r x. at .back r (subst (λ n. Ends p s depth n q r) (sym (fewer used h)) (queryTag k ∷ x .0, query k v is known reads (x .1)));
+}
 
 pub called : (p : Rules) (s : Records) (d sheet argument used : ℕ) (q : Point) (sh a : ℕ) (v : Reading) → used < 32 → p .turn q .ask ≡ Call sh a → GivesWithin p s d sh a v → At p s (suc d) sheet argument used q → At p s (suc d) sheet argument (used + 1) (after (p .turn q) q v)
 called p s d sheet argument used q sh a v h is gives at = record {
-    there = at .there;
-    onward = λ e r x.
-        let y = subst (λ n. Ends p s e n q r) (fewer used h) (at .onward e r x) in
-        after-call p s e (32 - (used + 1)) d q r sh a v (y .0) is (gives .1) (y .1);
-    back = λ r x. at .back r (subst (λ n. Ends p s (suc d) n q r) (sym (fewer used h)) (gives .1 .0 ++ x .0, call sh a v is (gives .0) (gives .1 .1) (x .1))) }
+  there = at .there;
+  onward = λ e r x.
+      let y = subst (λ n. Ends p s e n q r) (fewer used h) (at .onward e r x) in
+      after-call p s e (32 - (used + 1)) d q r sh a v (y .0) is (gives .1) (y .1);
+  back = λ r x. at .back r (subst (λ n. Ends p s (suc d) n q r) (sym (fewer used h)) (gives .1 .0 ++ x .0, call sh a v is (gives .0) (gives .1 .1) (x .1)));
+}
 
 pub finished : (p : Rules) (s : Records) (depth sheet argument used : ℕ) (q : Point) (r : Reading) → used < 32 → p .turn q .ask ≡ Done r → At p s depth sheet argument used q → GivesWithin p s depth sheet argument r
 finished p s depth sheet argument used q r h is at = (at .there, at .back r (subst (λ n. Ends p s depth n q r) (sym (fewer used h)) ([], done is)))

@@ -61,8 +61,8 @@ pub unheld : (db : Db) (p : Rules) (m sheet argument depth : ℕ) (fault : Fault
 unheld db p m sheet argument depth fault value fails =
     ⊎-elim
     (λ h. let v = value h in
-        absurd (not-failed (held db m ≡ false) ((r : Reading) → Gives p (db .at m) sheet argument r → ⊥) ((r : Reading) → GivesWithin p (db .at m) depth sheet argument r → ⊥) fault
-            (λ u. both-ways (held db m) u h) (λ none. none (v .0) (depth, v .1)) (λ within. within (v .0) (v .1)) fails))
+    absurd (not-failed (held db m ≡ false) ((r : Reading) → Gives p (db .at m) sheet argument r → ⊥) ((r : Reading) → GivesWithin p (db .at m) depth sheet argument r → ⊥) fault
+    (λ u. both-ways (held db m) u h) (λ none. none (v .0) (depth, v .1)) (λ within. within (v .0) (v .1)) fails))
     (λ h. h)
     (cases-bool (held db m))
 
@@ -123,10 +123,12 @@ tally-worth s argument d n r ts run =
     (λ (e : leb argument 255 ≡ false). subst (λ b. When b (Reads s (Tally 0 argument) r) (r ≡ None)) (sym e) (tally-none s argument d n r ts e run))
     (cases-bool (leb argument 255))
 
-tally-runs : (s : Records) (argument d : ℕ) (keys : List ℕ) → leb argument 255 ≡ true → KeysIn s 0 argument keys → Ends board s d 32 (start 0 argument) (tallied keys)
-tally-runs s argument d keys e told =
-    (_, query {left = 31} (Tally 0 argument) (tallied keys) (ap (λ t. t .ask) (tally-turn argument e)) refl (keys, told, refl)
-        (subst (λ t. Runs board s d 31 (after t (start 0 argument) (tallied keys)) (tallied keys) []) (sym (tally-turn argument e)) (done {left = 30} refl)))
+pub tally-runs : (s : Records) (argument d : ℕ) (keys : List ℕ) → leb argument 255 ≡ true → KeysIn s 0 argument keys → Ends board s d 32 (start 0 argument) (tallied keys)
+tally-runs s argument d keys e told = (
+  _,
+  query {left = 31} (Tally 0 argument) (tallied keys) (ap (λ t. t .ask) (tally-turn argument e)) refl (keys, told, refl)
+      (subst (λ t. Runs board s d 31 (after t (start 0 argument) (tallied keys)) (tallied keys) []) (sym (tally-turn argument e)) (done {left = 30} refl)),
+)
 
 pub tally-exists : (db : Db) (m argument : ℕ) → Sound db → held db m ≡ true → (r : Reading) × GivesWithin board (db .at m) 0 0 argument r
 tally-exists db m argument sound h =
@@ -153,11 +155,12 @@ counts-second s d n v r ts reads (query k u f known reads′ x) = absurd (clash-
 counts-second s d n v r ts reads (call {depth = e} {inner = ws} sh a u f there x y) =
     let end : Runs board s 0 1 (after (callSecond v) (after callFirst (start 1 0) v) u) (counts (narrow (countOf v)) u) [] = done {left = 0} refl in
     record {
-        free = v;
-        taken = u;
-        reads-free = reads;
-        reads-taken = inner-tally s e sh a 1 u ws refl (call-sheet f refl) (call-argument f refl) x;
-        both = same-end y end }
+      free = v;
+      taken = u;
+      reads-free = reads;
+      reads-taken = inner-tally s e sh a 1 u ws refl (call-sheet f refl) (call-argument f refl) x;
+      both = same-end y end;
+    }
 
 pub counts-worth : (s : Records) (d n : ℕ) (r : Reading) (ts : List Tag) → Runs board s d n (start 1 0) r ts → CountsOf s r
 counts-worth s d n r ts (done f) = absurd (clash-call refl f)
@@ -168,9 +171,15 @@ counts-worth s d n r ts (call {depth = e} {left = m} {tags = us} {inner = ws} sh
 pub counts-exists : (db : Db) (m : ℕ) → Sound db → held db m ≡ true → (r : Reading) × GivesWithin board (db .at m) 1 1 0 r
 counts-exists db m sound h =
     let free = sound .listed m 0 0 h in
-    let taken = sound .listed m 0 1 h in
-    (counts (narrow (countOf (tallied (free .0)))) (tallied (taken .0)),
-        (lit< tt, (_,
-            call {left = 31} 0 0 (tallied (free .0)) refl (lit< tt) (tally-runs (db .at m) 0 0 (free .0) refl (free .1) .1)
-            (call {left = 30} 0 1 (tallied (taken .0)) refl (lit< tt) (tally-runs (db .at m) 1 0 (taken .0) refl (taken .1) .1)
-            (done {left = 29} refl)))))
+    let taken = sound .listed m 0 1 h in (
+      counts (narrow (countOf (tallied (free .0)))) (tallied (taken .0)),
+      (
+        lit< tt,
+        (
+          _,
+          call {left = 31} 0 0 (tallied (free .0)) refl (lit< tt) (tally-runs (db .at m) 0 0 (free .0) refl (free .1) .1)
+              (call {left = 30} 0 1 (tallied (taken .0)) refl (lit< tt) (tally-runs (db .at m) 1 0 (taken .0) refl (taken .1) .1)
+              (done {left = 29} refl)),
+        ),
+      ),
+    )

@@ -26,7 +26,14 @@ pub fn start_of(sheet: u8, argument: u32) -> Point
 
 // Works a sheet out at a held moment, with at most `depth` sheets above one another.
 // Refuses with 32 where the moment is not held, 21, 23 or 24 where the sheet has no value, and 22 where the depth is used up.
-pub fn evaluate<D: Database, R: Recipe>(db: &D, recipe: &R, moment: Moment, sheet: u8, argument: u32, depth: usize) -> Result<Reading, Fault>
+pub fn evaluate<D: Database, R: Recipe>(
+    db: &D,
+    recipe: &R,
+    moment: Moment,
+    sheet: u8,
+    argument: u32,
+    depth: usize,
+) -> Result<Reading, Fault>
     ensures { λ r. ⌜ Evaluates (view (now (db .entry))) (rules (now (recipe .entry))) moment sheet argument depth r ⌝ }
 {
     if sheet >= recipe.sheets() {

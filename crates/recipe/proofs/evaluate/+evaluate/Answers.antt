@@ -34,15 +34,15 @@ loop-answers-again g t c =
     let q = c .loop-answers .point in
     let i = c .loop-answers .answers in
     let asked = sym (ap (λ t. t .ask) (c .next-turn .ensures)) in
-    elim (c .match-turn .came)
-    [ in-Query·else-tag-ge8·in-Continue-ask w ↦
-        let k = w .in-Query .query in
-        let known : knownTable (queryTag k .table) ≡ true = ap (λ tag. knownTable (tag .table)) (sym (w .tag .ensures)) ∙ lt-ltb (w .tag .result .table) 8 (w .if-tag-ge8 .left) in
-        goes-on p s (c .args .depth) (c .args .sheet) (c .args .argument) (i + 1) q (c .next-turn .result) (c .match-turn .last) _ (c .next-turn .ensures) (w .last-is)
-        (queried p s (c .args .depth) (c .args .sheet) (c .args .argument) i q k _ (c .loop-answers-test .taken) (asked ∙ w .in-Query .is) known (w .in-Continue-ask .ensures tt .1 .here) (c .loop-answers .inv))
-    | in-Call·else-depth-eq0·in-Ok w ↦
-        goes-on p s (c .args .depth) (c .args .sheet) (c .args .argument) (i + 1) q (c .next-turn .result) (c .match-turn .last) _ (c .next-turn .ensures) (w .last-is)
-        (called-below p s (c .args .depth) (c .args .sheet) (c .args .argument) i q (w .in-Call .sheet) (w .in-Call .argument) _ (c .loop-answers-test .taken) (w .if-depth-eq0 .left) (asked ∙ w .in-Call .is) (w .in-Ok .ensures tt) (c .loop-answers .inv))
+    elim (c .match-turn .came) [
+      | in-Query·else-tag-ge8·in-Continue-ask w ↦
+          let k = w .in-Query .query in
+          let known : knownTable (queryTag k .table) ≡ true = ap (λ tag. knownTable (tag .table)) (sym (w .tag .ensures)) ∙ lt-ltb (w .tag .result .table) 8 (w .if-tag-ge8 .left) in
+          goes-on p s (c .args .depth) (c .args .sheet) (c .args .argument) (i + 1) q (c .next-turn .result) (c .match-turn .last) _ (c .next-turn .ensures) (w .last-is)
+          (queried p s (c .args .depth) (c .args .sheet) (c .args .argument) i q k _ (c .loop-answers-test .taken) (asked ∙ w .in-Query .is) known (w .in-Continue-ask .ensures tt .1 .here) (c .loop-answers .inv))
+      | in-Call·else-depth-eq0·in-Ok w ↦
+          goes-on p s (c .args .depth) (c .args .sheet) (c .args .argument) (i + 1) q (c .next-turn .result) (c .match-turn .last) _ (c .next-turn .ensures) (w .last-is)
+          (called-below p s (c .args .depth) (c .args .sheet) (c .args .argument) i q (w .in-Call .sheet) (w .in-Call .argument) _ (c .loop-answers-test .taken) (w .if-depth-eq0 .left) (asked ∙ w .in-Call .is) (w .in-Ok .ensures tt) (c .loop-answers .inv))
     ]
 
 pub returns-in-Err : need.returns-in-Err
