@@ -4,6 +4,7 @@ ghost use Rattle.database.specs.Databases.{Db, Sound, PinsLatest, Unpins, Unpi
 pub mod pins;
 pub mod queries;
 pub mod retain;
+pub mod scan;
 pub mod writes;
 
 use terms::Change;
