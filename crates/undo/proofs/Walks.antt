@@ -3,7 +3,8 @@ use mathlib.Core.Path.{_≡_, refl, sym, ap, _∙_}
 use mathlib.Core.Bool.{Bool, true, false, cond}
 use mathlib.Core.List.{List, [], _∷_, _++_}
 use mathlib.Core.Logic.{_⊎_, inl, inr, ⊎-elim}
-use Prim.Native.Nat.{ℕ, _+_, _-_, _≤_, _<_}
+use Prim.Native.Nat.{ℕ, _+_, _-_, _≤_, _<_, min}
+use Rattle.database.specs.Lists.{least}
 use native.Mathlib.Omega.{arith}
 use lib.Dec.{leb, ltb}
 use lib.ListN.{length, take, drop, getD}
@@ -99,3 +100,12 @@ later-less low es i e n m at below inv is =
 pub later-none : (low : ℕ) (es : List Entry) (i : ℕ) (n m : ℕ) → None ≡ nth es i → Counting low es i n → m ≡ n → Counting low es (i + 1) m
 later-none low es i n m at inv is =
     (is ∙ inv .0 ∙ ap (λ xs. length (later low xs)) (sym (walk-none es i at)), omega (arith, inv .1))
+
+-- looking for the lowest of moments
+least-min : (n m : ℕ) (xs : List ℕ) → least (min n m) xs ≡ least n (m ∷ xs)
+least-min n m [] = refl
+least-min n m (x ∷ xs) = omega arith
+
+pub least-step : (xs : List ℕ) (i d n r : ℕ) → i < length xs → r ≡ min n (getD xs i d) → least r (drop (i + 1) xs) ≡ least n (drop i xs)
+least-step xs i d n r h e =
+    ap (λ k. least k (drop (i + 1) xs)) e ∙ least-min n (getD xs i d) (drop (i + 1) xs) ∙ sym (at-drop-more (least n) xs i d h)

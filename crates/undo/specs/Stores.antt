@@ -5,7 +5,8 @@ use mathlib.Core.List.{List, [], _∷_, map}
 use Prim.Native.Nat.{ℕ, _+_, _-_, _≤_, min}
 use lib.Dec.{leb, ltb}
 use lib.ListN.{length}
-use Rattle.std.specs.shelf.Lists.{kept-by}
+use denote.Ref.{now}
+use Rattle.std.specs.Of.Vec.{vec-items}
 use Rattle.terms.specs.declared.record.Change.{Change}
 use Rattle.terms.specs.declared.record.Query.{Query}
 use Rattle.terms.specs.declared.interval.Interval.{Interval}
@@ -15,10 +16,13 @@ use Rattle.terms.specs.Moments.{highest, isMoment}
 use Rattle.database.specs.Lists.{every, distinct, least, added, without}
 use Rattle.database.specs.Turns.{between}
 use Rattle.database.specs.Databases.{Db}
+use Rattle.line.specs.Rings.{waiting}
 use Rattle.undo.specs.declared.entry.Present.{Present}
 use Rattle.undo.specs.declared.entry.Entry.{Entry}
-use Rattle.undo.specs.Journals.{later, stateAt, presentAfterAll, entriesAfterAll}
-use Rattle.undo.specs.Versions.{turnsOf}
+use Rattle.undo.specs.declared.ledger.Ledger.{Ledger}
+use Rattle.undo.specs.declared.store.UndoStore.{UndoStore}
+use Rattle.undo.specs.Journals.{later, stateAt, presentAfterAll, entriesAfterAll, ascending}
+use Rattle.undo.specs.Versions.{versions, turnsOf, dated, rightly, isShown}
 
 -- the size, the latest moment, the floor up to which entries have been discarded, the pinned moments,
 -- the present records, and the kept entries, oldest first
@@ -29,6 +33,12 @@ pub record Store : Type 0 where
   pub pins : List ℕ
   pub present : List Present
   pub entries : List Entry
+
+-- what lies in memory, with these moments
+abbrev pub storeFrom : ℕ → ℕ → List ℕ → Ledger → Store
+storeFrom latest floor pins ledger = record {
+    size = ledger .line .size; latest = latest; floor = floor; pins = pins;
+    present = vec-items (ledger .present); entries = waiting (ledger .line) (now (ledger .journal)) }
 
 -- the lowest held moment
 abbrev pub lowest : Store → ℕ
@@ -84,3 +94,26 @@ written changes s = record {
 -- for how long a query's reading at a moment is right
 abbrev pub validity : Store → ℕ → Query → Interval
 validity s moment query = between (s .latest) moment (turnsOf query (s .present) (s .entries))
+
+-- what holds of every undo store
+pub record Good (s : Store) : Type 0 where
+  pub size : s .size ≤ 4096
+  pub rows : length (s .present) ≤ s .size
+  pub places : length (s .entries) ≤ s .size
+  pub moment : s .latest ≤ highest
+  pub few : length (s .pins) ≤ 32
+  pub once : distinct (s .pins) ≡ true
+  pub past : every (λ pin. leb pin (s .latest)) (s .pins) ≡ true
+  -- no held moment is below the floor
+  pub kept : every (λ moment. leb (s .floor) moment) (s .latest ∷ s .pins) ≡ true
+  pub ascends : ascending (s .entries) ≡ true
+  pub commits : every (λ entry. leb (entry .commit) (s .latest)) (s .entries) ≡ true
+  pub dates : every (dated (s .latest)) (versions (s .present) (s .entries)) ≡ true
+  -- a kept entry tells a made moment exactly if it is above the floor
+  pub told : every (rightly (s .floor) (s .entries)) (versions (s .present) (s .entries)) ≡ true
+  -- of a record the versions visible at a moment from the floor on are the one that it holds there, or none
+  pub apart : (moment table key : ℕ) → isShown (s .floor) (s .present) (s .entries) moment table key ≡ true
+
+-- what lies in memory
+abbrev pub storeOf : UndoStore → Store
+storeOf s = storeFrom (s .latest) (s .floor) (vec-items (s .pins .moments)) (s .ledger)

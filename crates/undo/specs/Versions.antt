@@ -1,5 +1,5 @@
 -- The versions that the present records and the kept entries tell, and for how long a reading of them is right.
-use mathlib.Core.Bool.{Bool, true, _&&_, cond}
+use mathlib.Core.Bool.{Bool, true, false, _&&_, not, cond}
 use mathlib.Core.List.{List, [], _∷_, _++_, map}
 use Prim.Native.Nat.{ℕ}
 use lib.Dec.{eqb, leb, ltb}
@@ -7,6 +7,7 @@ use Rattle.std.specs.declared.option.Option.{Option}
 use Rattle.std.specs.declared.option.Option.the-variants.{Some, None}
 use Rattle.std.specs.shelf.Lists.{kept-by, joined}
 use Rattle.terms.specs.declared.record.RecordId.{RecordId}
+use Rattle.terms.specs.declared.record.Value.{Value}
 use Rattle.terms.specs.declared.record.Row.{Row}
 use Rattle.terms.specs.declared.record.Query.{Query}
 use Rattle.terms.specs.Records.{isId}
@@ -16,6 +17,7 @@ use Rattle.undo.specs.declared.entry.Held.{Held}
 use Rattle.undo.specs.declared.entry.Present.{Present}
 use Rattle.undo.specs.declared.entry.Entry.{Entry}
 use Rattle.undo.specs.declared.entry.Version.{Version}
+use Rattle.undo.specs.Journals.{stateAt}
 
 -- a present record is a version that has not been replaced
 abbrev pub current : Present → Version
@@ -78,3 +80,24 @@ replacedUpto latest (Some replaced) = leb replaced latest
 -- made, and perhaps replaced, by the latest moment
 abbrev pub dated : ℕ → Version → Bool
 dated latest version = leb (version .made) latest && replacedUpto latest (version .replaced)
+
+-- whether a kept entry tells the made moment of a version exactly if it is above the floor
+abbrev pub rightly : ℕ → List Entry → Version → Bool
+rightly floor entries version = cond (ltb floor (version .made)) (isTold entries version) (not (isTold entries version))
+
+-- the values of a record in a list of rows
+abbrev pub valuesIn : List Row → ℕ → ℕ → List Value
+valuesIn rows table key = map (λ row. row .value) (kept-by (λ row. isId (row .id) (record { table = table; key = key })) rows)
+
+-- whether the values are the one given, or none where none is
+abbrev pub isOnly : List Value → Option Value → Bool
+isOnly [] None = true
+isOnly [] (Some value) = false
+isOnly (one ∷ values) None = false
+isOnly (one ∷ []) (Some value) = eqb (one .state) (value .state) && eqb (one .word) (value .word)
+isOnly (one ∷ (two ∷ values)) (Some value) = false
+
+-- whether the versions of a record visible at a moment from the floor on are the one that it holds there, or none
+abbrev pub isShown : ℕ → List Present → List Entry → ℕ → ℕ → ℕ → Bool
+isShown floor present entries moment table key =
+    cond (leb floor moment) (isOnly (valuesIn (rowsAt moment (versions present entries)) table key) (stateAt present entries moment table key)) true

@@ -2,7 +2,7 @@
 ghost use mathlib.Core.Path.{_≡_};
 ghost use mathlib.Core.Bool.{true};
 ghost use mathlib.Core.List.{[], _∷_, _++_};
-ghost use Prim.Native.Nat.{_+_, _-_, _<_, _≤_};
+ghost use Prim.Native.Nat.{_+_, _-_, _<_, _≤_, min};
 ghost use denote.Ref.{now};
 ghost use lib.ListN.{length, drop};
 ghost use Rattle.std.specs.Of.Vec.{vec-items, vec-len, vec-cap};
@@ -160,6 +160,16 @@ impl Ledger<'_> {
             }
         }
         needed
+    }
+
+    // The smaller of the unused rows and of the places that are not needed.
+    pub(crate) fn free(&self, lowest: Moment) -> usize
+        ensures { λ r. ⌜ r ≡ min (now (self .entry) .line .size - vec-len (now (self .entry) .present)) (now (self .entry) .line .size - length (later lowest (waiting (now (self .entry) .line) (now (now (self .entry) .journal))))) ⌝ }
+    {
+        let size = self.line.size();
+        let rows = size.saturating_sub(self.present.len());
+        let places = size.saturating_sub(self.needed(lowest));
+        rows.min(places)
     }
 
     // Lets all entries but the newest ones go.
