@@ -76,7 +76,7 @@ unread-end m q vs ns v is =
     (λ e. ap (λ rows. summary m q rows ns) (sym (rows-push m vs v ∙ cond-false (visible m v) _ _ e)))
     (cases-bool (visible m v))
 
-few-rows : (m : ℕ) (vs : List Version) → length (rowsAt m vs) ≤ length vs
+pub few-rows : (m : ℕ) (vs : List Version) → length (rowsAt m vs) ≤ length vs
 few-rows m vs =
     let a = length-map (kept-by (visible m) vs) (λ version. version .row) in
     let b = length-kept-by (visible m) vs in

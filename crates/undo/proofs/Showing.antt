@@ -141,7 +141,7 @@ absent-none : (m t k : ℕ) (id : RecordId) (ps : List Present) → isId id (rec
 absent-none m t k id [] h out = refl
 absent-none m t k id (p ∷ ps) h out =
     let parts = or-parts _ _ out in
-    let o : isId (p .row .id) (record { table = t; key = k }) ≡ false = (let e = parts .0 in grind (arith, telling)) in
+    let o : isId (p .row .id) (record { table = t; key = k }) ≡ false = (let e : isId id (p .row .id) ≡ false = parts .0 in grind (arith, telling)) in
     nil-append _ _ _ (shows-other m t k (current p) o) (absent-none m t k id ps h (parts .1))
 
 -- a present record that a change at N replaces shows before N what it showed
@@ -269,7 +269,7 @@ absent-values : (id : RecordId) (rows : List Row) (t k : ℕ) → isId id (recor
 absent-values id [] t k h out = refl
 absent-values id (row ∷ rows) t k h out =
     let w = or-parts _ _ out in
-    let o : isId (row .id) (record { table = t; key = k }) ≡ false = (let e = w .0 in grind (arith, telling)) in
+    let o : isId (row .id) (record { table = t; key = k }) ≡ false = (let e : isId id (row .id) ≡ false = w .0 in grind (arith, telling)) in
     rw o (absent-values id rows t k h (w .1))
 
 unique-values : (rows : List Row) (t k : ℕ) → unique rows ≡ true → valuesIn rows t k ≡ only (holding rows t k)

@@ -101,7 +101,7 @@ put-present N (Delete id) [] t k = ⊎-elim (λ e. rw e refl) (λ e. rw e refl) 
 put-present N (Set id value) (p ∷ ps) t k = put-cons N (Set id value) p ps t k (put-present N (Set id value) ps t k)
 put-present N (Delete id) (p ∷ ps) t k = put-cons N (Delete id) p ps t k (put-present N (Delete id) ps t k)
 
-changed-same : (cs : List Change) (one other : Records) → ((t k : ℕ) → one t k ≡ other t k) → (t k : ℕ) → changed cs one t k ≡ changed cs other t k
+pub changed-same : (cs : List Change) (one other : Records) → ((t k : ℕ) → one t k ≡ other t k) → (t k : ℕ) → changed cs one t k ≡ changed cs other t k
 changed-same [] one other h t k = h t k
 changed-same (c ∷ cs) one other h t k =
     changed-same cs (put c one) (put c other) (λ t k. ap (λ (v : Option Value). cond (isId (changeId c) (record { table = t; key = k })) (changeValue c) v) (h t k)) t k

@@ -14,6 +14,7 @@ use Rattle.terms.specs.declared.fault.Fault.{Fault}
 use Rattle.terms.specs.declared.fault.Fault.the-variants.{OutOfRange, OutOfMemory}
 use Rattle.terms.specs.Moments.{highest, isMoment}
 use Rattle.database.specs.Lists.{every, distinct, least, added, without}
+use Rattle.database.specs.Rows.{unique}
 use Rattle.database.specs.Turns.{between}
 use Rattle.database.specs.Databases.{Db}
 use Rattle.line.specs.Rings.{waiting}
@@ -21,7 +22,7 @@ use Rattle.undo.specs.declared.entry.Present.{Present}
 use Rattle.undo.specs.declared.entry.Entry.{Entry}
 use Rattle.undo.specs.declared.ledger.Ledger.{Ledger}
 use Rattle.undo.specs.declared.store.UndoStore.{UndoStore}
-use Rattle.undo.specs.Journals.{later, stateAt, presentAfterAll, entriesAfterAll, ascending}
+use Rattle.undo.specs.Journals.{later, rowsOf, stateAt, presentAfterAll, entriesAfterAll, ascending}
 use Rattle.undo.specs.Versions.{versions, turnsOf, dated, rightly, isShown}
 
 -- the size, the latest moment, the floor up to which entries have been discarded, the pinned moments,
@@ -106,6 +107,7 @@ pub record Good (s : Store) : Type 0 where
   pub past : every (λ pin. leb pin (s .latest)) (s .pins) ≡ true
   -- no held moment is below the floor
   pub kept : every (λ moment. leb (s .floor) moment) (s .latest ∷ s .pins) ≡ true
+  pub single : unique (rowsOf (s .present)) ≡ true
   pub ascends : ascending (s .entries) ≡ true
   pub commits : every (λ entry. leb (entry .commit) (s .latest)) (s .entries) ≡ true
   pub dates : every (dated (s .latest)) (versions (s .present) (s .entries)) ≡ true

@@ -9,8 +9,9 @@ ghost use lib.ListN.{length};
 ghost use Rattle.std.specs.Of.Vec.{vec-items, vec-len, vec-cap};
 ghost use Rattle.terms.specs.Moments.{highest};
 ghost use Rattle.database.specs.Lists.{every};
+ghost use Rattle.database.specs.Rows.{unique};
 ghost use Rattle.line.specs.Rings.{waiting};
-ghost use Rattle.undo.specs.Journals.{ascending};
+ghost use Rattle.undo.specs.Journals.{rowsOf, ascending};
 ghost use Rattle.undo.specs.Versions.{versions, dated, rightly, isShown};
 use crate::ledger::Ledger;
 use database::pins::Pins;
@@ -32,6 +33,9 @@ pub struct UndoStore<'a> {
     // no pinned moment is later than the latest, and no held one is below the floor
     ghost past: { every (λ pin. leb pin latest) (vec-items (pins .moments)) ≡ true },
     ghost kept: { every (λ moment. leb floor moment) (latest ∷ vec-items (pins .moments)) ≡ true },
+    // no record is present twice
+    ghost single: { unique (rowsOf (vec-items (ledger .present))) ≡ true },
+    // the commits of the entries ascend, up to the latest moment
     ghost ascends: { ascending (waiting (ledger .line) (now (ledger .journal))) ≡ true },
     ghost commits: { every (λ entry. leb (entry .commit) latest) (waiting (ledger .line) (now (ledger .journal))) ≡ true },
     ghost dates: { every (dated latest) (versions (vec-items (ledger .present)) (waiting (ledger .line) (now (ledger .journal)))) ≡ true },
