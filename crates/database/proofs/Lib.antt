@@ -5,3 +5,4 @@ pub mod Readings
 pub mod Changes
 pub mod Rows
 pub mod Turns
+pub mod Agreements

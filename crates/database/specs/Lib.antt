@@ -5,3 +5,4 @@ pub mod Databases
 pub mod Writes
 pub mod Turns
 pub mod Scans
+pub mod Agreements
