@@ -28,7 +28,6 @@ use Rattle.database.proofs.Sets.{length-below}
 abbrev keysOf : ℕ → ℕ → List Row → List ℕ
 keysOf table state rows = map (λ row. row .id .key) (kept-by (matches (Tally table state)) rows)
 
-
 -- a record that no row is of has no key among those in a state
 pub absent-key : (table state key : ℕ) (rows : List Row) → present (record { table = table; key = key }) rows ≡ false → among key (keysOf table state rows) ≡ false
 absent-key table state key [] out = refl

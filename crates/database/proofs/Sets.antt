@@ -48,7 +48,7 @@ length-below (x ∷ xs) ys dx dy within =
     let out : among x xs ≡ false = grind (arith, tells) in
     let more = length-without x ys dy here in
     let rest : (k : ℕ) → among k xs ≡ true → among k (without x ys) ≡ true =
-        λ k a. let w = within k (grind (arith, tells)) in let e = among-without k x ys in grind (arith, tells) in
+    λ k a. let w = within k (grind (arith, tells)) in let e = among-without k x ys in grind (arith, tells) in
     let ih = length-below xs (without x ys) (grind (arith, tells)) (distinct-without x ys dy) rest in
     omega arith
 

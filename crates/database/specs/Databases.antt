@@ -34,12 +34,13 @@ abbrev pub held : Db → ℕ → Bool
 held db moment = eqb moment (db .latest) || among moment (db .pins)
 
 -- what holds of every database: its moments are moments, at most 32 are pinned, none of them later than the latest,
--- and no table has more records of one state at a held moment than a 32-bit number can count
+-- and at a held moment the records of one table and state can be listed, and are no more than a 32-bit number can count
 pub record Sound (db : Db) : Type 0 where
   pub moments : db .latest ≤ highest
   pub few : length (db .pins) ≤ 32
   pub once : distinct (db .pins) ≡ true
   pub past : (moment : ℕ) → among moment (db .pins) ≡ true → moment ≤ db .latest
+  pub listed : (moment table state : ℕ) → held db moment ≡ true → (keys : List ℕ) × KeysIn (db .at moment) table state keys
   pub counted : (moment table state : ℕ) (keys : List ℕ) → held db moment ≡ true → KeysIn (db .at moment) table state keys → length keys ≤ 4294967295
 
 -- the states at the moments held in `kept` are in `after` what they are in `before`

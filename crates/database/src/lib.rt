@@ -1,6 +1,7 @@
 // What a database means, for every kind of database.
 ghost use mathlib.Core.Path.{_≡_};
 ghost use Rattle.database.specs.Databases.{Db, Sound, PinsLatest, Unpins, UnpinsAll, Asks, Writes};
+
 pub mod agree;
 pub mod pins;
 pub mod queries;

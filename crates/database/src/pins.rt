@@ -9,6 +9,7 @@ ghost use Rattle.std.specs.Of.Vec.{vec-items, vec-len, vec-cap};
 ghost use Rattle.std.specs.Vec.{made};
 ghost use Rattle.database.specs.Lists.{among, distinct, added, without};
 use crate::retain::Test;
+use crate::retain::any_passes;
 use crate::retain::retain;
 use std::alloc::AllocError;
 use std::alloc::Global;
@@ -21,6 +22,20 @@ pub struct Pins {
     ghost few: { vec-len moments ≤ 32 },
     ghost room: { 32 ≤ vec-cap moments },
     ghost once: { distinct (vec-items moments) ≡ true },
+}
+
+// One moment.
+#[derive(Drop)]
+struct Same {
+    moment: Moment,
+}
+
+impl Test<Moment> for Same as SameTest {
+    ghost passed = { λ s x. eqb (s .moment) x };
+
+    fn passes(&self, x: Moment) -> bool {
+        self.moment == x
+    }
 }
 
 // Every moment but one.
@@ -54,27 +69,28 @@ impl Pins {
     pub fn contains(&self, moment: Moment) -> bool
         ensures { λ r. ⌜ r ≡ among moment (vec-items (now (self .entry) .moments)) ⌝ }
     {
-        for pinned in self.moments.iter() {
-            if moment == *pinned {
-                return true;
-            }
-        }
-        false
+        any_passes(&self.moments, &Same { moment })
     }
 
-    // Adds a moment that is not there; false, and nothing changed, where 32 others are.
+    // Whether the moment is there, or fewer than 32 others are.
+    fn can_add(&self, moment: Moment) -> bool
+        ensures { λ r. ⌜ r ≡ (among moment (vec-items (now (self .entry) .moments)) || ltb (length (vec-items (now (self .entry) .moments))) 32) ⌝ }
+    {
+        self.contains(moment) || self.moments.len() < 32
+    }
+
+    // Adds a moment, if it is not there yet; false, and nothing changed, where 32 others are.
     pub fn add(&mut self, moment: Moment) -> bool
         ensures can { λ r. ⌜ r ≡ (among moment (vec-items (now (self .entry) .moments)) || ltb (length (vec-items (now (self .entry) .moments))) 32) ⌝ }
         ensures added { λ r. ⌜ (r ≡ true → vec-items (now (self .exit) .moments) ≡ added moment (vec-items (now (self .entry) .moments))) ⌝ }
         ensures same { λ r. ⌜ (r ≡ false → now (self .exit) ≡ now (self .entry)) ⌝ }
     {
-        if self.contains(moment) {
-            return true;
-        }
-        if self.moments.len() >= 32 {
+        if !self.can_add(moment) {
             return false;
         }
-        self.moments.push_reserved(moment);
+        if !self.contains(moment) {
+            self.moments.push_reserved(moment);
+        }
         true
     }
 

@@ -42,6 +42,8 @@ pub fn matches_row(query: Query, row: Row) -> bool
 {
     match query {
         Query::Get { id } => id.is_known() && id.is(row.id),
-        Query::Tally { table, state } => table < 8 && table == row.id.table && state == row.value.state,
+        Query::Tally { table, state } => table < 8
+            && table == row.id.table
+            && state == row.value.state,
     }
 }

@@ -1,8 +1,9 @@
-// Counts what passes a test, and keeps it in a `Vec`, in its order and in its place.
+// Finds, counts and keeps what passes a test.
 ghost use mathlib.Core.Path.{_≡_};
 ghost use mathlib.Core.Bool.{Bool};
 ghost use lib.ListN.{length};
 ghost use Rattle.std.specs.shelf.Lists.{kept-by};
+ghost use Rattle.database.specs.Lists.{any};
 ghost use Rattle.std.specs.Of.Vec.{vec-items, vec-cap};
 
 // A test of elements.
@@ -11,6 +12,18 @@ pub trait Test<T> {
 
     fn passes(&self, x: T) -> bool
         ensures { λ r. ⌜ r ≡ passed (now (self .entry)) x ⌝ };
+}
+
+// Whether an element passes.
+pub fn any_passes<T: Copy, P: Test<T>>(list: &[T], test: &P) -> bool
+    ensures { λ r. ⌜ r ≡ any (passed (now (test .entry))) (now (list .entry)) ⌝ }
+{
+    for i in 0..list.len() {
+        if test.passes(list[i]) {
+            return true;
+        }
+    }
+    false
 }
 
 // How many elements pass.
@@ -26,7 +39,7 @@ pub fn count<T: Copy, P: Test<T>>(list: &[T], test: &P) -> usize
     total
 }
 
-// Lets go of the elements that do not pass.
+// Lets go of the elements that do not pass; the others keep their order.
 pub fn retain<T: Copy, P: Test<T>>(list: &mut Vec<T>, test: &P)
     ensures items { λ _. ⌜ vec-items (now (list .exit)) ≡ kept-by (passed (now (test .entry))) (vec-items (now (list .entry))) ⌝ }
     ensures capacity { λ _. ⌜ vec-cap (now (list .exit)) ≡ vec-cap (now (list .entry)) ⌝ }

@@ -1,23 +1,28 @@
 // Whether a write is refused, for every kind of database.
 ghost use mathlib.Core.Path.{_≡_};
-ghost use Rattle.database.specs.Writes.{names, wrongChange, wrongList, refusal};
+ghost use Rattle.terms.specs.Records.{isId, changeId};
+ghost use Rattle.database.specs.Writes.{wrongChange, wrongList, refusal};
 ghost use mathlib.Core.List.{[]};
+use crate::retain::Test;
+use crate::retain::any_passes;
 use terms::Change;
 use terms::Fault;
 use terms::HIGHEST;
 use terms::Moment;
 use terms::RecordId;
 
-// Whether one of the changes names the record.
-fn is_named(id: RecordId, changes: &[Change]) -> bool
-    ensures { λ r. ⌜ r ≡ names id (now (changes .entry)) ⌝ }
-{
-    for change in changes {
-        if id.is(change.id()) {
-            return true;
-        }
+// Passes the changes of a record.
+#[derive(Drop)]
+struct Names {
+    id: RecordId,
+}
+
+impl Test<Change> for Names as NamesTest {
+    ghost passed = { λ s change. isId (s .id) (changeId change) };
+
+    fn passes(&self, change: Change) -> bool {
+        self.id.is(change.id())
     }
-    false
 }
 
 // The first change whose table is not there, or whose record is named before it.
@@ -29,7 +34,7 @@ fn wrong_change(changes: &[Change]) -> Option<Fault>
         if !id.is_known() {
             return Some(Fault::ChangeTable { index });
         }
-        if is_named(id, &changes[0..index]) {
+        if any_passes(&changes[0..index], &Names { id }) {
             return Some(Fault::RecordRepeated { index });
         }
     }

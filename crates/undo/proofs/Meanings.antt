@@ -27,7 +27,7 @@ use Rattle.database.specs.Rows.{holding, unique}
 use Rattle.database.specs.Databases.{Db, held, Sound, Pinned, canPin, Unpins, UnpinsAll, Written}
 use Rattle.database.specs.Writes.{changed, refusal, wrongList, noRoom, orElse}
 use Rattle.database.proofs.Sets.{among-added, among-without, least-among, least-below}
-use Rattle.database.proofs.Rows.{few-keys}
+use Rattle.database.proofs.Rows.{keys-in, few-keys}
 use Rattle.database.proofs.Turns.{every-among, every-append, every-kept}
 use Rattle.line.specs.Rings.{waiting}
 use Rattle.line.proofs.Rings.{length-waiting-le, length-waiting-fits, waiting-none}
@@ -82,6 +82,11 @@ sound s good = record {
     few = good .few;
     once = good .once;
     past = λ m a. leb-true m (s .latest) (every-among (λ pin. leb pin (s .latest)) (s .pins) m (good .past) a);
+    listed = λ m t st h.
+        let from = held-floor s m good h in
+        let rows = rowsAt m (versions (s .present) (s .entries)) in
+        let own = keys-in t st rows (rows-unique s m good from) in
+        (_, record { once = own .once; these = λ key. own .these key ∙ ap (λ v. inState st v) (seen-same (holding rows) (stateAt (s .present) (s .entries) m) t key (rows-hold s m good from t key)) });
     counted = λ m t st keys h told.
         let from = held-floor s m good h in
         let vs = versions (s .present) (s .entries) in

@@ -106,12 +106,12 @@ matched-alike q m n (v ∷ vs) h =
     let rest = kept-by (λ version. matches q (version .row)) vs in
     ⊎-elim
     (λ e. let whole : Alike m n (turns v ++ turnsOf q vs) = λ t a. h t (ap (λ b. among t (joined turns (cond b (v ∷ rest) rest))) e ∙ a) in
-        let ih = matched-alike q m n vs (λ t a. whole t (among-append t (turns v) (turnsOf q vs) ∙ or-right _ _ a)) in
-        let same = visible-alike m n v (λ t a. whole t (among-append t (turns v) (turnsOf q vs) ∙ or-left _ _ a)) in
-        let a = matched-cons q m v vs in let b = matched-cons q n v vs in
-        a ∙ rw (same, ih) (sym b))
+    let ih = matched-alike q m n vs (λ t a. whole t (among-append t (turns v) (turnsOf q vs) ∙ or-right _ _ a)) in
+    let same = visible-alike m n v (λ t a. whole t (among-append t (turns v) (turnsOf q vs) ∙ or-left _ _ a)) in
+    let a = matched-cons q m v vs in let b = matched-cons q n v vs in
+    a ∙ rw (same, ih) (sym b))
     (λ e. let ih = matched-alike q m n vs (λ t a. h t (ap (λ b. among t (joined turns (cond b (v ∷ rest) rest))) e ∙ a)) in
-        matched-cons q m v vs ∙ cond-false (matches q (v .row)) _ _ e ∙ ih ∙ sym (matched-cons q n v vs ∙ cond-false (matches q (v .row)) _ _ e))
+    matched-cons q m v vs ∙ cond-false (matches q (v .row)) _ _ e ∙ ih ∙ sym (matched-cons q n v vs ∙ cond-false (matches q (v .row)) _ _ e))
     (cases-bool (matches q (v .row)))
 
 -- each turn is at most the latest moment
@@ -127,7 +127,7 @@ turns-past q l (v ∷ vs) d =
     let rest = kept-by (λ version. matches q (version .row)) vs in
     ⊎-elim
     (λ e. ap (λ b. every (λ t. leb t l) (joined turns (cond b (v ∷ rest) rest))) e ∙ every-append (λ t. leb t l) (turns v) (turnsOf q vs)
-        ∙ and-from _ _ (and-from _ _ (here .0) (replaced-past l (v .replaced) (here .1))) ih)
+    ∙ and-from _ _ (and-from _ _ (here .0) (replaced-past l (v .replaced) (here .1))) ih)
     (λ e. ap (λ b. every (λ t. leb t l) (joined turns (cond b (v ∷ rest) rest))) e ∙ ih)
     (cases-bool (matches q (v .row)))
 
@@ -155,12 +155,13 @@ pub answers : (s : Store) (m : ℕ) (q : Query) → Good s → held (meaning s) 
 answers s m q good h =
     let ns = turnsOf q (s .kept) in
     record {
-        here = reads-rows q (rowsAt m (s .kept)) (good .apart m);
-        bears = refl;
-        inside = and-from _ _ (le-leb (firstOf m ns) m (first-upto m ns)) (until-reaches (s .latest) m m (endOf m ns) (held-past s m good h) (end-lasts m ns (endOf m ns) refl));
-        same = λ n k i.
-            let parts = and-parts _ _ i in
-            let side = alike m n ns (leb-true (firstOf m ns) n (parts .0)) (until-lasts (s .latest) n (endOf m ns) (parts .1)) in
-            let P = Reads (stateAt (s .kept) n) q in
-            subst P (ap (readMatched q) (sym (matched-alike q m n (s .kept) side))) (reads-rows q (rowsAt n (s .kept)) (good .apart n));
-        known = until-known s m ns (endOf m ns) (turns-past q (s .latest) (s .kept) (good .dates)) refl }
+      here = reads-rows q (rowsAt m (s .kept)) (good .apart m);
+      bears = refl;
+      inside = and-from _ _ (le-leb (firstOf m ns) m (first-upto m ns)) (until-reaches (s .latest) m m (endOf m ns) (held-past s m good h) (end-lasts m ns (endOf m ns) refl));
+      same = λ n k i.
+          let parts = and-parts _ _ i in
+          let side = alike m n ns (leb-true (firstOf m ns) n (parts .0)) (until-lasts (s .latest) n (endOf m ns) (parts .1)) in
+          let P = Reads (stateAt (s .kept) n) q in
+          subst P (ap (readMatched q) (sym (matched-alike q m n (s .kept) side))) (reads-rows q (rowsAt n (s .kept)) (good .apart n));
+      known = until-known s m ns (endOf m ns) (turns-past q (s .latest) (s .kept) (good .dates)) refl;
+    }

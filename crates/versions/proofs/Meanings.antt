@@ -22,7 +22,7 @@ use Rattle.database.specs.Rows.{holding, unique}
 use Rattle.database.specs.Databases.{Db, held, Sound, Pinned, canPin, Unpins, UnpinsAll, Written}
 use Rattle.database.specs.Writes.{changed, refusal, wrongList, noRoom, orElse}
 use Rattle.database.proofs.Sets.{among-added, among-without}
-use Rattle.database.proofs.Rows.{few-keys}
+use Rattle.database.proofs.Rows.{few-keys, keys-in}
 use Rattle.versions.specs.Versions.{visible, rowsAt, stateAt, needed, changedByAll, dated}
 use Rattle.versions.specs.declared.version.Version.{Version}
 use Rattle.versions.specs.declared.store.VersionStore.{VersionStore}
@@ -33,18 +33,19 @@ use Rattle.versions.proofs.Writing.{rows-needed, rows-before, rows-late, rows-
 -- every store is a database
 pub sound : (s : Store) → Good s → Sound (meaning s)
 sound s good = record {
-    moments = good .moment;
-    few = good .few;
-    once = good .once;
-    past = λ m a. leb-true m (s .latest) (every-among (λ pin. leb pin (s .latest)) (s .pins) m (good .past) a);
-    counted = λ m t st keys h told.
-        let few = few-keys t st (rowsAt m (s .kept)) keys (good .apart m) told in
-        let a = length-map (kept-by (visible m) (s .kept)) (λ version. version .row) in
-        let b = length-kept-by (visible m) (s .kept) in
-        let c = countBy-le-length (visible m) (s .kept) in
-        let d = good .fits in
-        let e = good .size in
-        omega arith }
+  moments = good .moment;
+  few = good .few;
+  once = good .once;
+  past = λ m a. leb-true m (s .latest) (every-among (λ pin. leb pin (s .latest)) (s .pins) m (good .past) a);
+  counted = λ m t st keys h told.
+      let few = few-keys t st (rowsAt m (s .kept)) keys (good .apart m) told in
+      let a = length-map (kept-by (visible m) (s .kept)) (λ version. version .row) in
+      let b = length-kept-by (visible m) (s .kept) in
+      let c = countBy-le-length (visible m) (s .kept) in
+      let d = good .fits in
+      let e = good .size in
+      omega arith;
+}
 
 pub pins-latest : (s : Store) → canPin (meaning s) ≡ true → Pinned (meaning s) (s .latest) (meaning (pinned s))
 pins-latest s can = record { can = can; answer = refl; latest = refl; pins = λ n. among-added n (s .latest) (s .pins); states = λ m t k h. refl }
@@ -88,29 +89,31 @@ writes s cs good =
     let l = s .latest in
     let part = kept-by (needed l (s .pins)) (s .kept) in
     record {
-        latest = refl;
-        answer = refl;
-        pins = λ n. refl;
-        states = λ n t k a.
-            let h = held-past s n good (or-right _ _ a) in
-            ap (λ rows. holding rows t k) (rows-before n (l + 1) cs part (omega arith) ∙ rows-needed l n (s .pins) (s .kept) (or-right _ _ a));
-        newest = λ t k.
-            rows-changes (l + 1) cs part (dated-part (needed l (s .pins)) l (s .kept) (good .dates)) t k
-            ∙ ap (λ rows. changed cs (holding rows) t k)
-              (rows-late l (l + 1) part (omega arith) (every-kept (dated l) (needed l (s .pins)) (s .kept) (good .dates))
-                ∙ rows-needed l l (s .pins) (s .kept) (or-left _ _ (eq-eqb l l refl))) }
+      latest = refl;
+      answer = refl;
+      pins = λ n. refl;
+      states = λ n t k a.
+          let h = held-past s n good (or-right _ _ a) in
+          ap (λ rows. holding rows t k) (rows-before n (l + 1) cs part (omega arith) ∙ rows-needed l n (s .pins) (s .kept) (or-right _ _ a));
+      newest = λ t k.
+          rows-changes (l + 1) cs part (dated-part (needed l (s .pins)) l (s .kept) (good .dates)) t k
+          ∙ ap (λ rows. changed cs (holding rows) t k)
+          (rows-late l (l + 1) part (omega arith) (every-kept (dated l) (needed l (s .pins)) (s .kept) (good .dates))
+          ∙ rows-needed l l (s .pins) (s .kept) (or-left _ _ (eq-eqb l l refl)));
+    }
 
 -- what a store's type says of it
 pub good : (s : VersionStore) → Good (storeOf s)
 good s = record {
-    size = s .size;
-    fits = omega (arith, s .fits, s .versions .ok .0);
-    moment = s .moment;
-    few = omega (arith, s .pins .few, s .pins .moments .ok .0);
-    once = s .pins .once;
-    past = s .past;
-    dates = s .dated;
-    apart = s .apart }
+  size = s .size;
+  fits = omega (arith, s .fits, s .versions .ok .0);
+  moment = s .moment;
+  few = omega (arith, s .pins .few, s .pins .moments .ok .0);
+  once = s .pins .once;
+  past = s .past;
+  dates = s .dated;
+  apart = s .apart;
+}
 
 -- the same store with other pins
 abbrev withPins : Store → List ℕ → Store
@@ -160,3 +163,7 @@ pub needed-few : (s : Store) → Good s → length (neededOf s) ≤ s .places
 needed-few s good =
     let p = needed (s .latest) (s .pins) in
     omega (arith, length-kept-by p (s .kept), countBy-le-length p (s .kept), good .fits)
+
+pub pins-either : (s : Store) (r : Bool) (pins : List ℕ) → (r ≡ true → pins ≡ added (s .latest) (s .pins)) → (r ≡ false → pins ≡ s .pins) → Good s → every (λ pin. leb pin (s .latest)) pins ≡ true
+pins-either s r pins one other good =
+    ⊎-elim (λ e. pins-past s pins (one e) good) (λ e. ap (every (λ pin. leb pin (s .latest))) (other e) ∙ good .past) (cases-bool r)

@@ -53,9 +53,9 @@ end-push : (m t : ℕ) (ns : List ℕ) → endOf m (ns ++ t ∷ []) ≡ endWith 
 end-push m t ns =
     ap smallest (kept-push (λ n. ltb m n) ns t)
     ∙ ⊎-elim
-      (λ e. let f : ltb m t ≡ false = grind (arith, tells) in rw f (sym (cond-true (leb t m) _ _ e)))
-      (λ e. let f : ltb m t ≡ true = grind (arith, tells) in rw f (smallest-push (kept-by (λ n. ltb m n) ns) t ∙ sym (cond-false (leb t m) _ _ e)))
-      (cases-bool (leb t m))
+    (λ e. let f : ltb m t ≡ false = grind (arith, tells) in rw f (sym (cond-true (leb t m) _ _ e)))
+    (λ e. let f : ltb m t ≡ true = grind (arith, tells) in rw f (smallest-push (kept-by (λ n. ltb m n) ns) t ∙ sym (cond-false (leb t m) _ _ e)))
+    (cases-bool (leb t m))
 
 same-scan : (r s : Reading) (a b : ℕ) (e f : Option ℕ) → r ≡ s → a ≡ b → e ≡ f → _≡_ {A = Scan} (record { reading = r; first = a; end = e }) (record { reading = s; first = b; end = f })
 same-scan r s a b e f p q w =
@@ -113,20 +113,20 @@ reading-push : (m : ℕ) (q : Query) (vs : List Version) (v : Version)
 reading-push m q vs v =
     ap (readRows q) (rows-push m vs v)
     ∙ ⊎-elim
-      (λ e. rw e (read-push q (rowsAt m vs) (v .row)))
-      (λ e. rw e (⊎-elim (λ f. rw f refl) (λ f. rw f refl) (cases-bool (matches q (v .row)))))
-      (cases-bool (visible m v))
+    (λ e. rw e (read-push q (rowsAt m vs) (v .row)))
+    (λ e. rw e (⊎-elim (λ f. rw f refl) (λ f. rw f refl) (cases-bool (matches q (v .row)))))
+    (cases-bool (visible m v))
 
 summary-push : (m : ℕ) (q : Query) (vs : List Version) (v : Version) → scanned m q v (summary m q vs) ≡ summary m q (vs ++ v ∷ [])
 summary-push m q vs v =
     ⊎-elim
     (λ e. let t = turns-push q vs v ∙ ap (λ b. cond b (turnsOf q vs ++ turns v) (turnsOf q vs)) e in
-        cond-true (matches q (v .row)) _ _ e
-        ∙ ap (readBy (visible m v) q (v .row)) (turns-end m (turnsOf q vs) (v .made) (v .replaced) (readRows q (rowsAt m vs)))
-        ∙ same-scan _ _ _ _ _ _ (sym (reading-push m q vs v ∙ cond-true (matches q (v .row)) _ _ e)) (ap (firstOf m) (sym t)) (ap (endOf m) (sym t)))
+    cond-true (matches q (v .row)) _ _ e
+    ∙ ap (readBy (visible m v) q (v .row)) (turns-end m (turnsOf q vs) (v .made) (v .replaced) (readRows q (rowsAt m vs)))
+    ∙ same-scan _ _ _ _ _ _ (sym (reading-push m q vs v ∙ cond-true (matches q (v .row)) _ _ e)) (ap (firstOf m) (sym t)) (ap (endOf m) (sym t)))
     (λ e. let t = turns-push q vs v ∙ ap (λ b. cond b (turnsOf q vs ++ turns v) (turnsOf q vs)) e in
-        cond-false (matches q (v .row)) _ _ e
-        ∙ same-scan _ _ _ _ _ _ (sym (reading-push m q vs v ∙ cond-false (matches q (v .row)) _ _ e)) (ap (firstOf m) (sym t)) (ap (endOf m) (sym t)))
+    cond-false (matches q (v .row)) _ _ e
+    ∙ same-scan _ _ _ _ _ _ (sym (reading-push m q vs v ∙ cond-false (matches q (v .row)) _ _ e)) (ap (firstOf m) (sym t)) (ap (endOf m) (sym t)))
     (cases-bool (matches q (v .row)))
 
 count-tally : (t st : ℕ) (ks : List ℕ) → length ks < 4294967295 → Counting (Tally t st) (tallied ks)

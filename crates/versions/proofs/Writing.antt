@@ -140,10 +140,10 @@ rows-now N id (v ∷ vs) d =
     let r = retired-parts N id v .0 in
     rows-cons N (retired N id v) (map (retired N id) vs)
     ∙ rw (s, r, ih)
-      (⊎-elim
-        (λ (e : visible N v ≡ true). rw e (⊎-elim (λ (f : others id (v .row) ≡ true). rw f refl) (λ (f : others id (v .row) ≡ false). rw f refl) (cases-bool (others id (v .row)))))
-        (λ (e : visible N v ≡ false). rw e refl)
-        (cases-bool (visible N v)))
+    (⊎-elim
+    (λ (e : visible N v ≡ true). rw e (⊎-elim (λ (f : others id (v .row) ≡ true). rw f refl) (λ (f : others id (v .row) ≡ false). rw f refl) (cases-bool (others id (v .row)))))
+    (λ (e : visible N v ≡ false). rw e refl)
+    (cases-bool (visible N v)))
 
 abbrev freshRows : Change → List Row
 freshRows (Set id value) = record { id = id; value = value } ∷ []
@@ -167,13 +167,13 @@ put-cons c row rows t k ih =
     let at : RecordId = record { table = t; key = k } in
     ⊎-elim
     (λ (e : others id row ≡ true). rw e (⊎-elim
-        (λ (f : isId (row .id) at ≡ true). rw f (let g : isId id at ≡ false = grind (arith, tells) in rw g refl))
-        (λ (f : isId (row .id) at ≡ false). rw f ih)
-        (cases-bool (isId (row .id) at))))
+    (λ (f : isId (row .id) at ≡ true). rw f (let g : isId id at ≡ false = grind (arith, tells) in rw g refl))
+    (λ (f : isId (row .id) at ≡ false). rw f ih)
+    (cases-bool (isId (row .id) at))))
     (λ (e : others id row ≡ false). rw e (⊎-elim
-        (λ (f : isId id at ≡ true). rw f (ih ∙ ap (λ b. cond b (changeValue c) (holding rows t k)) f))
-        (λ (f : isId id at ≡ false). rw f (let g : isId (row .id) at ≡ false = grind (arith, tells) in rw g (ih ∙ ap (λ b. cond b (changeValue c) (holding rows t k)) f)))
-        (cases-bool (isId id at))))
+    (λ (f : isId id at ≡ true). rw f (ih ∙ ap (λ b. cond b (changeValue c) (holding rows t k)) f))
+    (λ (f : isId id at ≡ false). rw f (let g : isId (row .id) at ≡ false = grind (arith, tells) in rw g (ih ∙ ap (λ b. cond b (changeValue c) (holding rows t k)) f)))
+    (cases-bool (isId id at))))
     (cases-bool (others id row))
 
 put-holding : (c : Change) (rows : List Row) (t k : ℕ) → holding (kept-by (others (changeId c)) rows ++ freshRows c) t k ≡ put c (holding rows) t k
@@ -219,7 +219,7 @@ rows-changes N [] vs d t k = refl
 rows-changes N (c ∷ cs) vs d t k =
     rows-changes N cs (changedBy N c vs) (dated-change N c vs d) t k
     ∙ changed-same cs (holding (rowsAt N (changedBy N c vs))) (put c (holding (rowsAt N vs)))
-      (λ t k. ap (λ rows. holding rows t k) (rows-change N c vs d) ∙ put-holding c (rowsAt N vs) t k) t k
+    (λ t k. ap (λ rows. holding rows t k) (rows-change N c vs d) ∙ put-holding c (rowsAt N vs) t k) t k
 
 -- no record stands twice: in a part of the rows, and in those after a change
 present-kept : (p : Row → Bool) (id : RecordId) (rows : List Row) → present id rows ≡ false → present id (kept-by p rows) ≡ false
@@ -265,13 +265,13 @@ present-part p m id (v ∷ vs) out =
     let whole = sym (ap (present id) (rows-cons m v vs)) ∙ out in
     ⊎-elim
     (λ (e : p v ≡ true). rw e (ap (present id) (rows-cons m v (kept-by p vs)) ∙ ⊎-elim
-        (λ (f : visible m v ≡ true). rw f (let w = rw f at whole in grind arith))
-        (λ (f : visible m v ≡ false). rw f (ih (rw f at whole)))
-        (cases-bool (visible m v))))
+    (λ (f : visible m v ≡ true). rw f (let w = rw f at whole in grind arith))
+    (λ (f : visible m v ≡ false). rw f (ih (rw f at whole)))
+    (cases-bool (visible m v))))
     (λ (e : p v ≡ false). rw e (ih (⊎-elim
-        (λ (f : visible m v ≡ true). let w = rw f at whole in grind arith)
-        (λ (f : visible m v ≡ false). rw f at whole)
-        (cases-bool (visible m v)))))
+    (λ (f : visible m v ≡ true). let w = rw f at whole in grind arith)
+    (λ (f : visible m v ≡ false). rw f at whole)
+    (cases-bool (visible m v)))))
     (cases-bool (p v))
 
 pub unique-part : (p : Version → Bool) (m : ℕ) (vs : List Version) → unique (rowsAt m vs) ≡ true → unique (rowsAt m (kept-by p vs)) ≡ true
@@ -282,13 +282,13 @@ unique-part p m (v ∷ vs) u =
     let whole = sym (ap unique (rows-cons m v vs)) ∙ u in
     ⊎-elim
     (λ (e : p v ≡ true). rw e (ap unique (rows-cons m v (kept-by p vs)) ∙ ⊎-elim
-        (λ (f : visible m v ≡ true). rw f (let w = rw f at whole in grind arith))
-        (λ (f : visible m v ≡ false). rw f (ih (rw f at whole)))
-        (cases-bool (visible m v))))
+    (λ (f : visible m v ≡ true). rw f (let w = rw f at whole in grind arith))
+    (λ (f : visible m v ≡ false). rw f (ih (rw f at whole)))
+    (cases-bool (visible m v))))
     (λ (e : p v ≡ false). rw e (ih (⊎-elim
-        (λ (f : visible m v ≡ true). let w = rw f at whole in grind arith)
-        (λ (f : visible m v ≡ false). rw f at whole)
-        (cases-bool (visible m v)))))
+    (λ (f : visible m v ≡ true). let w = rw f at whole in grind arith)
+    (λ (f : visible m v ≡ false). rw f at whole)
+    (cases-bool (visible m v)))))
     (cases-bool (p v))
 
 apart-change : (N : ℕ) (c : Change) (vs : List Version) → every (dated N) vs ≡ true → ((m : ℕ) → unique (rowsAt m vs) ≡ true) → (m : ℕ) → unique (rowsAt m (changedBy N c vs)) ≡ true

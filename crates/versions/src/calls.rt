@@ -4,7 +4,6 @@ ghost use mathlib.Core.Bool.{true, false};
 ghost use denote.Ref.{now};
 ghost use Rattle.std.specs.Results.{Cases, isOk};
 ghost use Rattle.std.specs.Vec.{made};
-ghost use Rattle.database.specs.Lists.{any};
 ghost use Rattle.database.specs.Databases.{held, PinsLatest, Unpins, UnpinsAll, Asks, Writes};
 ghost use Rattle.versions.specs.Versions.{needed, visible};
 ghost use Rattle.versions.specs.Scans.{scanAnswer};
@@ -20,6 +19,7 @@ use database::Database;
 use database::pins::Pins;
 use database::queries::rests_on;
 use database::retain::Test;
+use database::retain::any_passes;
 use database::retain::count;
 use database::retain::retain;
 use database::writes::write_refusal;
@@ -39,24 +39,26 @@ pub struct Needed<'a> {
     pins: &'a [Moment],
 }
 
+// Passes the moments at which the version is visible.
+#[derive(Drop)]
+struct Seen {
+    version: Version,
+}
+
+impl Test<Moment> for Seen as SeenTest {
+    ghost passed = { λ s moment. visible moment (s .version) };
+
+    fn passes(&self, moment: Moment) -> bool {
+        is_visible(self.version, moment)
+    }
+}
+
 impl Test<Version> for Needed<'_> as NeededTest {
     ghost passed = { λ s v. needed (s .latest) (now (s .pins)) v };
 
     fn passes(&self, x: Version) -> bool {
-        is_visible(x, self.latest) || any_visible(x, self.pins)
+        is_visible(x, self.latest) || any_passes(self.pins, &Seen { version: x })
     }
-}
-
-// Whether the version is visible at one of the moments.
-fn any_visible(version: Version, moments: &[Moment]) -> bool
-    ensures { λ r. ⌜ r ≡ any (λ moment. visible moment version) (now (moments .entry)) ⌝ }
-{
-    for moment in moments {
-        if is_visible(version, *moment) {
-            return true;
-        }
-    }
-    false
 }
 
 impl VersionStore {

@@ -6,5 +6,6 @@ mod store;
 mod version;
 mod walks;
 
+pub use calls::VersionDatabase;
 pub use store::VersionStore;
 pub use version::Version;

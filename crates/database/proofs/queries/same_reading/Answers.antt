@@ -1,5 +1,4 @@
 use Rattle.database.proofs.Readings.{reads-one}
-
 use Rattle.database.proofs.queries.same_reading.Needs as need
 
 pub returns : need.returns

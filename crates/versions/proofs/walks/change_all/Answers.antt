@@ -16,11 +16,12 @@ loop-change-again c =
     let i = c .loop-change .change-index in
     let changes = c .args .changes .now in
     let moment = c .args .moment in
-    let F : List Change → List Version = λ cs. changedByAll moment cs (vec-items (c .loop-change .versions)) in
-    ( ap (changedByAll moment (drop (i + 1) changes)) (c .change-one .ensures .items)
-      ∙ sym (at-drop-more F changes i _ (c .loop-change-test .taken)) ∙ c .loop-change .inv .0
-    , c .change-one .ensures .capacity ∙ c .loop-change .inv .1
-    , search needs )
+    let F : List Change → List Version = λ cs. changedByAll moment cs (vec-items (c .loop-change .versions)) in (
+      ap (changedByAll moment (drop (i + 1) changes)) (c .change-one .ensures .items)
+          ∙ sym (at-drop-more F changes i _ (c .loop-change-test .taken)) ∙ c .loop-change .inv .0,
+      c .change-one .ensures .capacity ∙ c .loop-change .inv .1,
+      search needs,
+    )
 
 pub returns : need.returns
 returns c =

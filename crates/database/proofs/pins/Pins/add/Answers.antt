@@ -7,4 +7,4 @@ use Rattle.database.proofs.pins.Pins.add.Needs as need
 
 pub ghost-self : need.ghost-self
 ghost-self c =
-    (search needs, (search needs, (ap distinct (c .push-reserved .ensures .items) ∙ distinct-push (c .args .moment) (vec-items (c .args .self .now .moments)) (c .args .self .now .once) (sym (c .if-contains .ensures tt)), tt)))
+    (search needs, (search needs, (ap distinct (c .push-reserved .ensures .items) ∙ distinct-push (c .args .moment) (vec-items (c .args .self .now .moments)) (c .args .self .now .once) (sym (c .if-not-contains .ensures tt)), tt)))

@@ -1,0 +1,4 @@
+pub mod Searches
+pub mod Shifts
+pub mod Orders
+pub mod Closings
