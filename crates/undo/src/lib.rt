@@ -7,6 +7,7 @@ mod store;
 
 pub use entry::Entry;
 pub use entry::Held;
-pub use entry::Present;
-pub use entry::Version;
 pub use store::UndoStore;
+
+#[cfg(test)]
+mod tests;
