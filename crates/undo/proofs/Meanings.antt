@@ -136,7 +136,7 @@ unpins-to s m pins e = ap (λ ps. withPins ps s) e
 pub unpins-mean : (s : Store) (m : ℕ) (pins : List ℕ) → pins ≡ without m (s .pins) → Unpins (meaning s) m (meaning (withPins pins s))
 unpins-mean s m pins e = let P : List ℕ → Type 0 = λ ps. Unpins (meaning s) m (meaning (withPins ps s)) in subst P (sym e) (unpins s m)
 
-every-without : (p : ℕ → Bool) (m : ℕ) (xs pins : List ℕ) → pins ≡ without m xs → every p xs ≡ true → every p pins ≡ true
+pub every-without : (p : ℕ → Bool) (m : ℕ) (xs pins : List ℕ) → pins ≡ without m xs → every p xs ≡ true → every p pins ≡ true
 every-without p m xs pins e h = ap (every p) e ∙ every-kept p (λ x. not (eqb x m)) xs h
 
 pub unpins-past : (s : Store) (m : ℕ) (pins : List ℕ) → pins ≡ without m (s .pins) → Good s → every (λ pin. leb pin (s .latest)) pins ≡ true
@@ -284,5 +284,10 @@ made-empty l pins size first p e none s =
 pub made-lasting : (t : Store) (size first : ℕ) → t ≡ emptyAt size first → Lasting t
 made-lasting t size first e = subst Lasting (sym e) (empty size first)
 
-pub made-range : (size first : ℕ) → 0 < size → size ≤ 4096 → isMoment first ≡ true → inRange size first ≡ true
-made-range size first a b c = and-from _ _ (lt-ltb 0 size a) (and-from _ _ (le-leb size 4096 b) c)
+pub size-range : (size first : ℕ) → inRange size first ≡ true → size ≤ 4096
+size-range size first r =
+    let parts = and-parts (ltb 0 size) (leb size 4096 && isMoment first) r in leb-true size 4096 (and-parts (leb size 4096) (isMoment first) (parts .1) .0)
+
+pub first-range : (size first : ℕ) → inRange size first ≡ true → first ≤ highest
+first-range size first r =
+    let parts = and-parts (ltb 0 size) (leb size 4096 && isMoment first) r in leb-true first highest (and-parts (leb size 4096) (isMoment first) (parts .1) .1)

@@ -85,16 +85,16 @@ later-push low es i e at =
     ∙ ap length (kept-by-append (λ entry. ltb low (entry .commit)) (take i es) (e ∷ []))
     ∙ length-append (later low (take i es)) (later low (e ∷ []))
 
-pub later-more : (low : ℕ) (es : List Entry) (i : ℕ) (e : Entry) (n m : ℕ) → Some e ≡ nth es i → low < e .commit → Counting low es i n → m ≡ n + 1 → Counting low es (i + 1) m
+pub later-more : (low : ℕ) (es : List Entry) (i : ℕ) (e : Entry) (n m : ℕ) → Some e ≡ nth es i → ltb low (e .commit) ≡ true → Counting low es i n → m ≡ n + 1 → Counting low es (i + 1) m
 later-more low es i e n m at above inv is =
     let p = later-push low es i e at in
-    let one : length (later low (e ∷ [])) ≡ 1 = rw (lt-ltb low (e .commit) above) refl in
+    let one : length (later low (e ∷ [])) ≡ 1 = rw above refl in
     (omega (arith, inv .0), omega (arith, inv .1))
 
-pub later-less : (low : ℕ) (es : List Entry) (i : ℕ) (e : Entry) (n m : ℕ) → Some e ≡ nth es i → e .commit ≤ low → Counting low es i n → m ≡ n → Counting low es (i + 1) m
+pub later-less : (low : ℕ) (es : List Entry) (i : ℕ) (e : Entry) (n m : ℕ) → Some e ≡ nth es i → ltb low (e .commit) ≡ false → Counting low es i n → m ≡ n → Counting low es (i + 1) m
 later-less low es i e n m at below inv is =
     let p = later-push low es i e at in
-    let none : length (later low (e ∷ [])) ≡ 0 = rw (le-ltb low (e .commit) below) refl in
+    let none : length (later low (e ∷ [])) ≡ 0 = rw below refl in
     (omega (arith, inv .0), omega (arith, inv .1))
 
 pub later-none : (low : ℕ) (es : List Entry) (i : ℕ) (n m : ℕ) → None ≡ nth es i → Counting low es i n → m ≡ n → Counting low es (i + 1) m

@@ -1,13 +1,14 @@
 // The undo store as a database.
 ghost use mathlib.Core.Path.{_≡_};
-ghost use mathlib.Core.Bool.{true, false};
+ghost use mathlib.Core.Bool.{Bool, true, false, _&&_, not};
 ghost use Prim.Native.Nat.{ℕ, _≤_};
 ghost use denote.Ref.{now};
+ghost use lib.Dec.{eqb};
 ghost use lib.ListN.{length};
 ghost use Rattle.std.specs.Results.{Cases, isOk};
 ghost use Rattle.std.specs.Vec.{made};
 ghost use Rattle.std.specs.Of.Vec.{vec-items};
-ghost use Rattle.database.specs.Lists.{least};
+ghost use Rattle.database.specs.Lists.{every, among, least, without};
 ghost use Rattle.database.specs.Databases.{held, PinsLatest, Unpins, UnpinsAll, Asks, Writes};
 ghost use Rattle.undo.specs.Stores.{Store, lowest, inRange, Refused, storeFrom, storeOf, meaning, emptyAt, pinned, unpinned, unpinnedAll, written, validity};
 use crate::entry::Entry;
@@ -36,13 +37,29 @@ fn lowest_of(latest: Moment, pins: &[Moment]) -> Moment
     lowest
 }
 
+// Whether a store may have this size and first moment.
+fn in_range(size: usize, first: Moment) -> bool
+    ensures { λ r. ⌜ r ≡ inRange size first ⌝ }
+{
+    0 < size && size <= 4096 && is_moment(first)
+}
+
+// A moment is pinned no longer.
+fn unpin_one(pins: &mut Pins, moment: Moment)
+    ensures items { λ _. ⌜ vec-items (now (pins .exit) .moments) ≡ without moment (vec-items (now (pins .entry) .moments)) ⌝ }
+    ensures among { λ _. ⌜ ((n : ℕ) → among n (vec-items (now (pins .exit) .moments)) ≡ (among n (vec-items (now (pins .entry) .moments)) && not (eqb n moment))) ⌝ }
+    ensures every { λ _. ⌜ ((p : ℕ → Bool) → every p (vec-items (now (pins .entry) .moments)) ≡ true → every p (vec-items (now (pins .exit) .moments)) ≡ true) ⌝ }
+{
+    pins.remove(moment);
+}
+
 impl<'a> UndoStore<'a> {
     // A store that keeps its entries in this journal, empty at its first moment. Its size is the journal's length.
     pub fn new(heap: Global, journal: &'a mut [Entry], first: Moment) -> Result<UndoStore<'a>, Fault>
         ensures { λ r. ⌜ Cases r (λ s. (inRange (length (now (journal .entry))) first ≡ true) × (storeOf s ≡ emptyAt (length (now (journal .entry))) first)) (λ fault. Refused (length (now (journal .entry))) first fault) ⌝ }
     {
         let size = journal.len();
-        if size > 4096 || !is_moment(first) {
+        if !in_range(size, first) {
             return Err(Fault::OutOfRange);
         }
         let Some(line) = Line::new(size) else {
@@ -109,7 +126,7 @@ pub impl Database for UndoStore<'_> as UndoDatabase {
         ensures means { λ _. ⌜ Unpins (meaning (storeOf (now (self .entry)))) moment (meaning (storeOf (now (self .exit)))) ⌝ }
         ensures keeps { λ _. ⌜ storeOf (now (self .exit)) ≡ unpinned moment (storeOf (now (self .entry))) ⌝ }
     {
-        self.pins.remove(moment);
+        unpin_one(&mut self.pins, moment);
     }
 
     fn unpin_all(&mut self)

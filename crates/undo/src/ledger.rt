@@ -4,6 +4,7 @@ ghost use mathlib.Core.Bool.{true};
 ghost use mathlib.Core.List.{[], _∷_, _++_};
 ghost use Prim.Native.Nat.{_+_, _-_, _<_, _≤_, min};
 ghost use denote.Ref.{now};
+ghost use lib.Dec.{ltb};
 ghost use lib.ListN.{length, drop};
 ghost use Rattle.std.specs.Of.Vec.{vec-items, vec-len, vec-cap};
 ghost use Rattle.std.specs.shelf.Lists.{kept-by};
@@ -67,6 +68,13 @@ fn leaves_entry(change: Change, former: Option<Held>) -> bool
         Change::Set { .. } => true,
         Change::Delete { .. } => former.is_some(),
     }
+}
+
+// Whether an entry is needed to undo the commits above the lowest held moment.
+fn is_needed(entry: Entry, lowest: Moment) -> bool
+    ensures { λ r. ⌜ r ≡ ltb lowest (entry .commit) ⌝ }
+{
+    entry.commit > lowest
 }
 
 // Takes a record out of the present ones.
@@ -154,7 +162,7 @@ impl Ledger<'_> {
         let mut needed = 0;
         for i in 0..self.line.len() {
             if let Some(entry) = self.entry(i) {
-                if entry.commit > lowest {
+                if is_needed(entry, lowest) {
                     needed += 1;
                 }
             }

@@ -8,7 +8,7 @@ use Rattle.line.proofs.Rings.{length-waiting-le}
 use Rattle.undo.specs.Journals.{later}
 use Rattle.undo.proofs.Walks.{later-more, later-less, later-none}
 use Rattle.undo.proofs.ledger.Ledger.needed.Needs as need
-use Rattle.undo.proofs.ledger.Ledger.needed.Needs.{in-Some·then-entry-lowest, in-Some·else-entry-lowest, in-rest}
+use Rattle.undo.proofs.ledger.Ledger.needed.Needs.{in-Some·then-is-needed, in-Some·else-is-needed, in-rest}
 
 pub loop-i-again : need.loop-i-again
 loop-i-again c =
@@ -18,8 +18,8 @@ loop-i-again c =
     let i = c .loop-i .i in
     let n = c .loop-i .needed in
     elim (c .match-entry .came) [
-    | in-Some·then-entry-lowest w ↦ later-more low es i (w .in-Some .entry) n _ (w .in-Some .ensures tt) (w .if-entry-lowest .taken) (c .loop-i .inv) (w .needed-is)
-    | in-Some·else-entry-lowest w ↦ later-less low es i (w .in-Some .entry) n _ (w .in-Some .ensures tt) (w .if-entry-lowest .left) (c .loop-i .inv) (w .needed-is)
+    | in-Some·then-is-needed w ↦ later-more low es i (w .in-Some .entry) n _ (w .in-Some .ensures tt) (sym (w .if-is-needed .ensures tt)) (c .loop-i .inv) (w .needed-is)
+    | in-Some·else-is-needed w ↦ later-less low es i (w .in-Some .entry) n _ (w .in-Some .ensures tt) (sym (w .if-is-needed .ensures tt)) (c .loop-i .inv) (w .needed-is)
     | in-rest w ↦ later-none low es i n _ (w .in-rest .ensures tt) (c .loop-i .inv) (w .needed-is) ]
 
 pub returns : need.returns

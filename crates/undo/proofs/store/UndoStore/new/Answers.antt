@@ -2,14 +2,12 @@ use mathlib.Core.Bool.{true}
 use mathlib.Core.Path.{_≡_, sym, ap, _∙_}
 use native.Mathlib.Omega.{arith}
 use borrow.Author.Needs.{needs}
-use Prim.Native.Nat.{_<_}
 use denote.Ref.{now}
 use lib.ListN.{length}
 use Rattle.std.specs.Of.Vec.{vec-items}
-use Rattle.terms.specs.Moments.{isMoment}
 use Rattle.undo.specs.declared.ledger.Ledger.{Ledger}
-use Rattle.undo.specs.Stores.{storeFrom}
-use Rattle.undo.proofs.Meanings.{made-empty, made-lasting, made-range}
+use Rattle.undo.specs.Stores.{storeFrom, inRange}
+use Rattle.undo.proofs.Meanings.{made-empty, made-lasting, size-range, first-range}
 use Rattle.undo.proofs.store.UndoStore.new.Needs as need
 
 pub ghost-result : need.ghost-result
@@ -22,11 +20,12 @@ ghost-result c =
     let pins = vec-items (c .in-Ok .pins .moments) in
     let to = made-empty l pins size first (c .in-Ok .ensures tt) (room .0) (line .2) (line .0) in
     let w = made-lasting (storeFrom first first pins l) size first to in
-    (omega (arith, line .0),
+    let range : inRange size first ≡ true = search needs in
+    (omega (arith, line .0, size-range size first range),
         (omega (arith, line .0, room .1 .1),
         (omega (arith, line .0),
         (omega (arith, room .1 .0),
-        (search needs,
+        (first-range size first range,
         (w .past, (w .kept, (w .single, (w .ascends, (w .commits, (w .dates, (w .told, (w .apart, tt)))))))))))))
 
 pub returns : need.returns
@@ -35,7 +34,5 @@ returns c =
     let l : Ledger = record { present = c .in-Ok-with-capacity .present; journal = c .args .journal; line = c .in-Some .line } in
     let size = length (now (c .args .journal)) in
     let line = c .in-Some .ensures tt in
-    let some : 0 < size = omega (arith, line .0, c .in-Some .line .inside) in
-    let first-is : isMoment first ≡ true = search needs in
-    ( made-range size first some (c .if-size-gt4096 .left) first-is
-    , made-empty l (vec-items (c .in-Ok .pins .moments)) size first (c .in-Ok .ensures tt) (c .in-Ok-with-capacity .ensures tt .made .0) (line .2) (line .0) )
+    let range : inRange size first ≡ true = search needs in
+    (range, made-empty l (vec-items (c .in-Ok .pins .moments)) size first (c .in-Ok .ensures tt) (c .in-Ok-with-capacity .ensures tt .made .0) (line .2) (line .0))
