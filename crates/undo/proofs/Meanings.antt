@@ -117,18 +117,10 @@ pins-to s pins e = ap (λ ps. withPins ps s) e
 pub pins-mean : (s : Store) (pins : List ℕ) → pins ≡ added (s .latest) (s .pins) → canPin (meaning s) ≡ true → Pinned (meaning s) (s .latest) (meaning (withPins pins s))
 pins-mean s pins e can = let P : List ℕ → Type 0 = λ ps. Pinned (meaning s) (s .latest) (meaning (withPins ps s)) in subst P (sym e) (pins-latest s can)
 
--- the latest moment was added to the pins, or nothing changed
-every-either : (p : ℕ → Bool) (s : Store) (r : Bool) (pins : List ℕ) → (r ≡ true → pins ≡ added (s .latest) (s .pins)) → (r ≡ false → pins ≡ s .pins) → every p (s .pins) ≡ true → p (s .latest) ≡ true → every p pins ≡ true
-every-either p s r pins yes-way no-way h is =
-    ⊎-elim (λ e. ap (every p) (yes-way e) ∙ every-added p (s .latest) (s .pins) h is) (λ e. ap (every p) (no-way e) ∙ h) (cases-bool r)
-
-pub pins-past : (s : Store) (r : Bool) (pins : List ℕ) → (r ≡ true → pins ≡ added (s .latest) (s .pins)) → (r ≡ false → pins ≡ s .pins) → Good s → every (λ pin. leb pin (s .latest)) pins ≡ true
-pins-past s r pins a b good = every-either (λ pin. leb pin (s .latest)) s r pins a b (good .past) (le-leb (s .latest) (s .latest) (omega arith))
-
-pub pins-kept : (s : Store) (r : Bool) (pins : List ℕ) → (r ≡ true → pins ≡ added (s .latest) (s .pins)) → (r ≡ false → pins ≡ s .pins) → Good s → every (λ n. leb (s .floor) n) (s .latest ∷ pins) ≡ true
-pins-kept s r pins a b good =
-    let parts = and-parts _ _ (good .kept) in
-    and-from _ _ (parts .0) (every-either (λ n. leb (s .floor) n) s r pins a b (parts .1) (parts .0))
+-- a moment was added to the pins, or nothing changed
+pub every-either : (p : ℕ → Bool) (m : ℕ) (r : Bool) (xs pins : List ℕ) → (r ≡ true → pins ≡ added m xs) → (r ≡ false → pins ≡ xs) → every p xs ≡ true → p m ≡ true → every p pins ≡ true
+every-either p m r xs pins yes-way no-way h is =
+    ⊎-elim (λ e. ap (every p) (yes-way e) ∙ every-added p m xs h is) (λ e. ap (every p) (no-way e) ∙ h) (cases-bool r)
 
 pub unpins-to : (s : Store) (m : ℕ) (pins : List ℕ) → pins ≡ without m (s .pins) → withPins pins s ≡ unpinned m s
 unpins-to s m pins e = ap (λ ps. withPins ps s) e

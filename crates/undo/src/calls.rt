@@ -1,14 +1,15 @@
 // The undo store as a database.
 ghost use mathlib.Core.Path.{_≡_};
-ghost use mathlib.Core.Bool.{Bool, true, false, _&&_, not};
+ghost use mathlib.Core.Bool.{Bool, true, false, _&&_, _||_, not};
+ghost use mathlib.Core.List.{_∷_};
 ghost use Prim.Native.Nat.{ℕ, _≤_};
 ghost use denote.Ref.{now};
-ghost use lib.Dec.{eqb};
+ghost use lib.Dec.{eqb, leb, ltb};
 ghost use lib.ListN.{length};
 ghost use Rattle.std.specs.Results.{Cases, isOk};
 ghost use Rattle.std.specs.Vec.{made};
 ghost use Rattle.std.specs.Of.Vec.{vec-items};
-ghost use Rattle.database.specs.Lists.{every, among, least, without};
+ghost use Rattle.database.specs.Lists.{every, among, least, added, without};
 ghost use Rattle.database.specs.Databases.{held, PinsLatest, Unpins, UnpinsAll, Asks, Writes};
 ghost use Rattle.undo.specs.Stores.{Store, lowest, inRange, Refused, storeFrom, storeOf, meaning, emptyAt, pinned, unpinned, unpinnedAll, written, validity};
 use crate::entry::Entry;
@@ -42,6 +43,18 @@ fn in_range(size: usize, first: Moment) -> bool
     ensures { λ r. ⌜ r ≡ inRange size first ⌝ }
 {
     0 < size && size <= 4096 && is_moment(first)
+}
+
+// A moment is pinned, if it can be.
+fn pin_one(pins: &mut Pins, moment: Moment) -> bool
+    ensures can { λ r. ⌜ r ≡ (among moment (vec-items (now (pins .entry) .moments)) || ltb (length (vec-items (now (pins .entry) .moments))) 32) ⌝ }
+    ensures items { λ r. ⌜ (r ≡ true → vec-items (now (pins .exit) .moments) ≡ added moment (vec-items (now (pins .entry) .moments))) ⌝ }
+    ensures among { λ r. ⌜ (r ≡ true → (n : ℕ) → among n (vec-items (now (pins .exit) .moments)) ≡ (eqb n moment || among n (vec-items (now (pins .entry) .moments)))) ⌝ }
+    ensures same { λ r. ⌜ (r ≡ false → now (pins .exit) ≡ now (pins .entry)) ⌝ }
+    ensures upto { λ _. ⌜ (every (λ pin. leb pin moment) (vec-items (now (pins .entry) .moments)) ≡ true → every (λ pin. leb pin moment) (vec-items (now (pins .exit) .moments)) ≡ true) ⌝ }
+    ensures from { λ _. ⌜ ((floor : ℕ) → every (λ pin. leb floor pin) (moment ∷ vec-items (now (pins .entry) .moments)) ≡ true → every (λ pin. leb floor pin) (moment ∷ vec-items (now (pins .exit) .moments)) ≡ true) ⌝ }
+{
+    pins.add(moment)
 }
 
 // A moment is pinned no longer.
@@ -115,7 +128,7 @@ pub impl Database for UndoStore<'_> as UndoDatabase {
         ensures same { λ r. ⌜ (isOk r ≡ false → storeOf (now (self .exit)) ≡ storeOf (now (self .entry))) ⌝ }
     {
         let latest = self.latest;
-        if self.pins.add(latest) {
+        if pin_one(&mut self.pins, latest) {
             Ok(latest)
         } else {
             Err(Fault::NoPin { frames: 0 })
