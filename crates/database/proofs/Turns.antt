@@ -2,7 +2,7 @@
 use mathlib.Core.Path.{_≡_, refl, sym, ap, _∙_}
 use mathlib.Core.Bool.{Bool, true, false, cond, _&&_, _||_}
 use mathlib.Core.List.{List, [], _∷_, _++_, map}
-use mathlib.Core.Logic.{_⊎_, inl, inr, ⊎-elim}
+use mathlib.Core.Logic.{_⊎_, ⊎-elim}
 use Prim.Native.Nat.{ℕ, _+_, _≤_, _<_, max, min}
 use native.Mathlib.Omega.{arith}
 use lib.Dec.{leb, ltb, eqb}
@@ -21,9 +21,9 @@ use Rattle.terms.specs.declared.record.Query.the-variants.{Get, Tally}
 use Rattle.terms.specs.Records.{Reading}
 use Rattle.terms.specs.Intervals.{contains, reaches}
 use Rattle.database.specs.declared.scan.Scan.{Scan}
-use Rattle.database.specs.Lists.{any, every, among, least}
+use Rattle.database.specs.Lists.{every, among, least}
 use Rattle.database.specs.States.{tallied}
-use Rattle.database.specs.Rows.{matches, readMatched, readRows}
+use Rattle.database.specs.Rows.{matches, readMatched}
 use Rattle.database.specs.Databases.{Db, Known}
 use Rattle.database.specs.Turns.{greatest, smallest, firstOf, endOf, untilOf, between}
 use Rattle.database.specs.Scans.{summary, firstWith, endWith, smaller, turnedBy, readMore, readBy}
@@ -54,9 +54,9 @@ end-push : (m t : ℕ) (ns : List ℕ) → endOf m (ns ++ t ∷ []) ≡ endWith 
 end-push m t ns =
     ap smallest (kept-push (λ n. ltb m n) ns t)
     ∙ ⊎-elim
-      (λ e. let f : ltb m t ≡ false = grind (arith, tells) in rw f (sym (cond-true (leb t m) _ _ e)))
-      (λ e. let f : ltb m t ≡ true = grind (arith, tells) in rw f (smallest-push (kept-by (λ n. ltb m n) ns) t ∙ sym (cond-false (leb t m) _ _ e)))
-      (cases-bool (leb t m))
+    (λ e. let f : ltb m t ≡ false = grind (arith, tells) in rw f (sym (cond-true (leb t m) _ _ e)))
+    (λ e. let f : ltb m t ≡ true = grind (arith, tells) in rw f (smallest-push (kept-by (λ n. ltb m n) ns) t ∙ sym (cond-false (leb t m) _ _ e)))
+    (cases-bool (leb t m))
 
 same-scan : (r s : Reading) (a b : ℕ) (e f : Option ℕ) → r ≡ s → a ≡ b → e ≡ f → _≡_ {A = Scan} (record { reading = r; first = a; end = e }) (record { reading = s; first = b; end = f })
 same-scan r s a b e f p q w =

@@ -7,7 +7,12 @@ use terms::Moment;
 use terms::Query;
 
 // Whether two databases of any kinds read a query alike at a moment. They do wherever they hold the same records there.
-pub fn agree<A: Database, B: Database>(one: &A, other: &B, moment: Moment, query: Query) -> Result<bool, Fault>
+pub fn agree<A: Database, B: Database>(
+    one: &A,
+    other: &B,
+    moment: Moment,
+    query: Query,
+) -> Result<bool, Fault>
     ensures { λ r. ⌜ Compares (A·Database .view (now (one .entry))) (B·Database .view (now (other .entry))) moment query r ⌝ }
 {
     let first = one.ask(moment, query)?;

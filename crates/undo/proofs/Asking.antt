@@ -1,29 +1,29 @@
 -- The answer of the undo store is one that a database gives.
 use mathlib.Core.Path.{_≡_, refl, sym, ap, _∙_, subst}
-use mathlib.Core.Bool.{Bool, true, false, cond, _&&_, _||_, not}
-use mathlib.Core.List.{List, [], _∷_, _++_, map}
-use mathlib.Core.Logic.{_⊎_, inl, inr, ⊎-elim}
-use Prim.Native.Nat.{ℕ, _+_, _≤_, _<_}
+use mathlib.Core.Bool.{Bool, true, false, cond, _&&_}
+use mathlib.Core.List.{List, [], _∷_, _++_}
+use mathlib.Core.Logic.{_⊎_, ⊎-elim}
+use Prim.Native.Nat.{ℕ, _+_, _≤_}
 use native.Mathlib.Omega.{arith}
-use lib.Dec.{leb, ltb, eqb}
+use lib.Dec.{leb, ltb}
 use lib.ListN.{length}
 use Rattle.std.proofs.shelf.Ways.{tells as telling}
-use Rattle.std.proofs.shelf.Tests.{cases-bool, cond-true, cond-false, leb-true, le-leb, ltb-true, ltb-false, and-from, and-parts, or-cases, or-right, or-left, eqb-true, eq-eqb, not-true, both-ways}
+use Rattle.std.proofs.shelf.Tests.{cases-bool, cond-true, cond-false, leb-true, le-leb, ltb-false, and-from, and-parts, or-cases, or-right, or-left, eqb-true, eq-eqb, not-true}
 use Rattle.std.specs.declared.option.Option.{Option}
 use Rattle.std.specs.declared.option.Option.the-variants.{Some, None}
-use Rattle.std.specs.shelf.Lists.{kept-by, joined}
+use Rattle.std.specs.shelf.Lists.{kept-by}
 use Rattle.terms.specs.declared.record.RecordId.{RecordId}
 use Rattle.terms.specs.declared.record.Value.{Value}
 use Rattle.terms.specs.declared.record.Row.{Row}
 use Rattle.terms.specs.declared.record.Query.{Query}
-use Rattle.terms.specs.Records.{Reading, isId, queryTag}
+use Rattle.terms.specs.Records.{isId, queryTag}
 use Rattle.database.specs.declared.Answer.{Answer}
-use Rattle.database.specs.Lists.{any, every, among}
+use Rattle.database.specs.Lists.{every, among}
 use Rattle.database.specs.States.{Records, Reads}
 use Rattle.database.specs.Rows.{holding, present, matches, readMatched, readRows, unique}
 use Rattle.database.specs.Turns.{between}
 use Rattle.database.specs.Databases.{held, Answers}
-use Rattle.database.proofs.Rows.{reads-rows, same-id}
+use Rattle.database.proofs.Rows.{reads-rows}
 use Rattle.database.proofs.Readings.{reads-alike}
 use Rattle.database.proofs.Turns.{Alike, among-append, every-append, every-among, between-inside, between-alike, between-known}
 use Rattle.undo.specs.declared.entry.Entry.{Entry}
@@ -160,12 +160,12 @@ matched-alike floor q m n (v ∷ vs) a b h =
     let rest = turnsAmong p q vs in
     ⊎-elim
     (λ e. let whole : Alike m n (turnsBy p v ++ rest) = λ t w. h t (ap (among t) (turns-cons p q v vs ∙ cond-true (matches q (v .row)) _ _ e) ∙ w) in
-        let ih = matched-alike floor q m n vs a b (λ t w. whole t (among-append t (turnsBy p v) rest ∙ or-right _ _ w)) in
-        let same = visible-alike floor m n v a b (λ t w. whole t (among-append t (turnsBy p v) rest ∙ or-left _ _ w)) in
-        let x = matched-cons q m v vs in let y = matched-cons q n v vs in
-        x ∙ rw (same, ih) (sym y))
+    let ih = matched-alike floor q m n vs a b (λ t w. whole t (among-append t (turnsBy p v) rest ∙ or-right _ _ w)) in
+    let same = visible-alike floor m n v a b (λ t w. whole t (among-append t (turnsBy p v) rest ∙ or-left _ _ w)) in
+    let x = matched-cons q m v vs in let y = matched-cons q n v vs in
+    x ∙ rw (same, ih) (sym y))
     (λ e. let ih = matched-alike floor q m n vs a b (λ t w. h t (ap (among t) (turns-cons p q v vs ∙ cond-false (matches q (v .row)) _ _ e) ∙ w)) in
-        matched-cons q m v vs ∙ cond-false (matches q (v .row)) _ _ e ∙ ih ∙ sym (matched-cons q n v vs ∙ cond-false (matches q (v .row)) _ _ e))
+    matched-cons q m v vs ∙ cond-false (matches q (v .row)) _ _ e ∙ ih ∙ sym (matched-cons q n v vs ∙ cond-false (matches q (v .row)) _ _ e))
     (cases-bool (matches q (v .row)))
 
 -- each turn is at most the latest moment
@@ -186,10 +186,10 @@ turns-past p q l (v ∷ vs) d =
     let mades = cond (p v) (v .made ∷ []) [] in
     ap (every (λ t. leb t l)) (turns-cons p q v vs)
     ∙ ⊎-elim
-      (λ e. ap (every (λ t. leb t l)) (cond-true (matches q (v .row)) _ _ e) ∙ every-append (λ t. leb t l) (turnsBy p v) (turnsAmong p q vs)
-        ∙ and-from _ _ (every-append (λ t. leb t l) mades (replacements (v .replaced)) ∙ and-from _ _ (made-past l (v .made) (p v) (here .0)) (replaced-past l (v .replaced) (here .1))) ih)
-      (λ e. ap (every (λ t. leb t l)) (cond-false (matches q (v .row)) _ _ e) ∙ ih)
-      (cases-bool (matches q (v .row)))
+    (λ e. ap (every (λ t. leb t l)) (cond-true (matches q (v .row)) _ _ e) ∙ every-append (λ t. leb t l) (turnsBy p v) (turnsAmong p q vs)
+    ∙ and-from _ _ (every-append (λ t. leb t l) mades (replacements (v .replaced)) ∙ and-from _ _ (made-past l (v .made) (p v) (here .0)) (replaced-past l (v .replaced) (here .1))) ih)
+    (λ e. ap (every (λ t. leb t l)) (cond-false (matches q (v .row)) _ _ e) ∙ ih)
+    (cases-bool (matches q (v .row)))
 
 -- the answer of an ask at a held moment
 abbrev pub answerAt : Store → ℕ → Query → Answer
@@ -202,14 +202,15 @@ answers s m q good h =
     let floor = s .floor in
     let told = turns-same floor (s .entries) q vs (good .told) in
     record {
-        here = reads-at s m q good (held-floor s m good h);
-        bears = refl;
-        inside = between-inside (s .latest) m ns (held-past s m good h);
-        same = λ n k i.
-            let side : Alike m n (turnsAmong (isAbove floor) q vs) = λ t w. between-alike (s .latest) m n ns i t (ap (among t) told ∙ w) in
-            let P = Reads (stateAt (s .present) (s .entries) n) q in
-            subst P (ap (readMatched q) (sym (matched-alike floor q m n vs (held-floor s m good h) (held-floor s n good k) side))) (reads-at s n q good (held-floor s n good k));
-        known = between-known (meaning s) m ns (turns-past (isTold (s .entries)) q (s .latest) vs (good .dates)) }
+      here = reads-at s m q good (held-floor s m good h);
+      bears = refl;
+      inside = between-inside (s .latest) m ns (held-past s m good h);
+      same = λ n k i.
+          let side : Alike m n (turnsAmong (isAbove floor) q vs) = λ t w. between-alike (s .latest) m n ns i t (ap (among t) told ∙ w) in
+          let P = Reads (stateAt (s .present) (s .entries) n) q in
+          subst P (ap (readMatched q) (sym (matched-alike floor q m n vs (held-floor s m good h) (held-floor s n good k) side))) (reads-at s n q good (held-floor s n good k));
+      known = between-known (meaning s) m ns (turns-past (isTold (s .entries)) q (s .latest) vs (good .dates));
+    }
 
 -- and it is what the pass finds
 pub answer-found : (s : Store) (m : ℕ) (q : Query) → Good s → scanAnswer (s .latest) q (found (s .floor) m q (versions (s .present) (s .entries))) ≡ answerAt s m q

@@ -1,32 +1,31 @@
 -- What each call makes of the store is what a database means by it.
 use mathlib.Core.Path.{_≡_, refl, sym, ap, _∙_, subst}
-use mathlib.Core.Bool.{Bool, true, false, cond, _&&_, _||_, not}
-use mathlib.Core.List.{List, [], _∷_, _++_, map}
-use mathlib.Core.Logic.{_⊎_, inl, inr, ⊎-elim}
-use Prim.Native.Nat.{ℕ, _+_, _-_, _≤_, _<_, min}
+use mathlib.Core.Bool.{Bool, true, false, cond, _&&_, not}
+use mathlib.Core.List.{List, [], _∷_, map}
+use mathlib.Core.Logic.{_⊎_, ⊎-elim}
+use Prim.Native.Nat.{ℕ, _+_, _-_, _≤_, _<_}
 use native.Mathlib.Omega.{arith}
 use denote.Ref.{now}
 use lib.Dec.{leb, ltb, eqb}
 use lib.ListN.{length, drop}
 use Rattle.std.proofs.shelf.Ways.{tells as telling}
-use Rattle.std.proofs.shelf.Tests.{cases-bool, leb-true, le-leb, lt-ltb, ltb-true, ltb-false, and-from, and-parts, or-cases, or-right, or-left, cond-true, cond-false, eq-eqb}
+use Rattle.std.proofs.shelf.Tests.{cases-bool, leb-true, le-leb, and-from, and-parts, or-right, or-left, eq-eqb}
 use Rattle.std.proofs.shelf.Lists.{length-append, length-map}
-use Rattle.std.proofs.shelf.Sums.{length-kept-by, countBy-le-length}
 use Rattle.std.specs.declared.option.Option.{Option}
 use Rattle.std.specs.declared.option.Option.the-variants.{Some, None}
 use Rattle.std.specs.Of.Vec.{vec-items}
-use Rattle.std.specs.shelf.Lists.{kept-by, joined}
+use Rattle.std.specs.shelf.Lists.{joined}
 use Rattle.terms.specs.declared.record.Change.{Change}
 use Rattle.terms.specs.declared.fault.Fault.{Fault}
 use Rattle.terms.specs.declared.record.Value.{Value}
 use Rattle.terms.specs.Moments.{highest, isMoment}
 use Rattle.terms.specs.Records.{knownTable}
-use Rattle.database.specs.Lists.{every, among, least, added, without}
+use Rattle.database.specs.Lists.{every, among, added, without}
 use Rattle.database.specs.States.{Records, seen, inState, KeysIn}
 use Rattle.database.specs.Rows.{holding, unique}
-use Rattle.database.specs.Databases.{Db, held, Sound, Pinned, canPin, Unpins, UnpinsAll, Written}
+use Rattle.database.specs.Databases.{held, Sound, Written}
 use Rattle.database.specs.Writes.{changed, refusal, wrongList, noRoom, orElse}
-use Rattle.database.proofs.Sets.{among-added, among-without, least-among, least-below}
+use Rattle.database.proofs.Sets.{least-among, least-below}
 use Rattle.database.proofs.Rows.{keys-in, few-keys}
 use Rattle.database.proofs.Turns.{every-among, every-append, every-kept}
 use Rattle.line.specs.Rings.{waiting}
@@ -37,8 +36,8 @@ use Rattle.undo.specs.declared.ledger.Ledger.{Ledger}
 use Rattle.undo.specs.declared.store.UndoStore.{UndoStore}
 use Rattle.undo.specs.Ledgers.{Grown}
 use Rattle.undo.specs.Journals.{undone, later, rowsOf, stateAt, presentAfterAll, entriesAfterAll, ascending}
-use Rattle.undo.specs.Versions.{current, replacedBy, versions, visible, rowsAt, dated, rightly, isShown}
-use Rattle.undo.specs.Stores.{Store, storeFrom, storeOf, emptyAt, inRange, meaning, lowest, neededOf, withPins, pinned, unpinned, unpinnedAll, written, Good}
+use Rattle.undo.specs.Versions.{current, replacedBy, versions, rowsAt, dated, rightly, isShown}
+use Rattle.undo.specs.Stores.{Store, storeFrom, storeOf, emptyAt, inRange, meaning, lowest, neededOf, written, Good}
 use Rattle.undo.proofs.Undoing.{later-later, states-before, state-late, changed-same, put-presents, commits-later, commits-changes, ascending-later, ascending-changes, newest}
 use Rattle.undo.proofs.Telling.{dated-part, dated-changes, told-part, told-changes}
 use Rattle.undo.proofs.Showing.{unique-changes, shown-written}
@@ -50,20 +49,21 @@ pub good : (s : UndoStore) → Good (storeOf s)
 good s =
     let l = s .ledger .line in
     record {
-        size = s .size;
-        rows = omega (arith, s .rows, s .ledger .present .ok .0);
-        places = omega (arith, length-waiting-le l (now (s .ledger .journal)), l .few);
-        moment = s .moment;
-        few = omega (arith, s .pins .few, s .pins .moments .ok .0);
-        once = s .pins .once;
-        past = s .past;
-        kept = s .kept;
-        single = s .single;
-        ascends = s .ascends;
-        commits = s .commits;
-        dates = s .dates;
-        told = s .told;
-        apart = s .apart }
+      size = s .size;
+      rows = omega (arith, s .rows, s .ledger .present .ok .0);
+      places = omega (arith, length-waiting-le l (now (s .ledger .journal)), l .few);
+      moment = s .moment;
+      few = omega (arith, s .pins .few, s .pins .moments .ok .0);
+      once = s .pins .once;
+      past = s .past;
+      kept = s .kept;
+      single = s .single;
+      ascends = s .ascends;
+      commits = s .commits;
+      dates = s .dates;
+      told = s .told;
+      apart = s .apart;
+    }
 
 few-versions : (s : Store) → Good s → length (versions (s .present) (s .entries)) ≤ 8192
 few-versions s good =
@@ -78,32 +78,27 @@ seen-same one other t k e = ap (λ (v : Option Value). cond (knownTable t) v Non
 -- every store is a database
 pub sound : (s : Store) → Good s → Sound (meaning s)
 sound s good = record {
-    moments = good .moment;
-    few = good .few;
-    once = good .once;
-    past = λ m a. leb-true m (s .latest) (every-among (λ pin. leb pin (s .latest)) (s .pins) m (good .past) a);
-    listed = λ m t st h.
-        let from = held-floor s m good h in
-        let rows = rowsAt m (versions (s .present) (s .entries)) in
-        let own = keys-in t st rows (rows-unique s m good from) in
-        (_, record { once = own .once; these = λ key. own .these key ∙ ap (λ v. inState st v) (seen-same (holding rows) (stateAt (s .present) (s .entries) m) t key (rows-hold s m good from t key)) });
-    counted = λ m t st keys h told.
-        let from = held-floor s m good h in
-        let vs = versions (s .present) (s .entries) in
-        let rows = rowsAt m vs in
-        let in-rows : KeysIn (holding rows) t st keys = record { once = told .once; these = λ key. told .these key ∙ ap (λ v. inState st v) (seen-same (stateAt (s .present) (s .entries) m) (holding rows) t key (sym (rows-hold s m good from t key))) } in
-        let few = few-keys t st rows keys (rows-unique s m good from) in-rows in
-        let a = few-rows m vs in
-        let b = few-versions s good in
-        omega arith }
+  moments = good .moment;
+  few = good .few;
+  once = good .once;
+  past = λ m a. leb-true m (s .latest) (every-among (λ pin. leb pin (s .latest)) (s .pins) m (good .past) a);
+  listed = λ m t st h.
+      let from = held-floor s m good h in
+      let rows = rowsAt m (versions (s .present) (s .entries)) in
+      let own = keys-in t st rows (rows-unique s m good from) in
+      (_, record { once = own .once; these = λ key. own .these key ∙ ap (λ v. inState st v) (seen-same (holding rows) (stateAt (s .present) (s .entries) m) t key (rows-hold s m good from t key)) });
+  counted = λ m t st keys h told.
+      let from = held-floor s m good h in
+      let vs = versions (s .present) (s .entries) in
+      let rows = rowsAt m vs in
+      let in-rows : KeysIn (holding rows) t st keys = record { once = told .once; these = λ key. told .these key ∙ ap (λ v. inState st v) (seen-same (stateAt (s .present) (s .entries) m) (holding rows) t key (sym (rows-hold s m good from t key))) } in
+      let few = few-keys t st rows keys (rows-unique s m good from) in-rows in
+      let a = few-rows m vs in
+      let b = few-versions s good in
+      omega arith;
+}
 
 -- pins
-
-pub pins-latest : (s : Store) → canPin (meaning s) ≡ true → Pinned (meaning s) (s .latest) (meaning (pinned s))
-pins-latest s can = record { can = can; answer = refl; latest = refl; pins = λ n. among-added n (s .latest) (s .pins); states = λ m t k h. refl }
-
-unpins : (s : Store) (m : ℕ) → Unpins (meaning s) m (meaning (unpinned m s))
-unpins s m = record { latest = refl; pins = λ n. among-without n m (s .pins); states = λ n t k h. refl }
 
 every-added : (p : ℕ → Bool) (n : ℕ) (xs : List ℕ) → every p xs ≡ true → p n ≡ true → every p (added n xs) ≡ true
 every-added p n xs h is =
@@ -111,32 +106,13 @@ every-added p n xs h is =
     (λ (e : among n xs ≡ false). rw e (every-append p xs (n ∷ []) ∙ and-from _ _ h (and-from _ _ is refl)))
     (cases-bool (among n xs))
 
-pub pins-to : (s : Store) (pins : List ℕ) → pins ≡ added (s .latest) (s .pins) → withPins pins s ≡ pinned s
-pins-to s pins e = ap (λ ps. withPins ps s) e
-
-pub pins-mean : (s : Store) (pins : List ℕ) → pins ≡ added (s .latest) (s .pins) → canPin (meaning s) ≡ true → Pinned (meaning s) (s .latest) (meaning (withPins pins s))
-pins-mean s pins e can = let P : List ℕ → Type 0 = λ ps. Pinned (meaning s) (s .latest) (meaning (withPins ps s)) in subst P (sym e) (pins-latest s can)
-
 -- a moment was added to the pins, or nothing changed
 pub every-either : (p : ℕ → Bool) (m : ℕ) (r : Bool) (xs pins : List ℕ) → (r ≡ true → pins ≡ added m xs) → (r ≡ false → pins ≡ xs) → every p xs ≡ true → p m ≡ true → every p pins ≡ true
 every-either p m r xs pins yes-way no-way h is =
     ⊎-elim (λ e. ap (every p) (yes-way e) ∙ every-added p m xs h is) (λ e. ap (every p) (no-way e) ∙ h) (cases-bool r)
 
-pub unpins-to : (s : Store) (m : ℕ) (pins : List ℕ) → pins ≡ without m (s .pins) → withPins pins s ≡ unpinned m s
-unpins-to s m pins e = ap (λ ps. withPins ps s) e
-
-pub unpins-mean : (s : Store) (m : ℕ) (pins : List ℕ) → pins ≡ without m (s .pins) → Unpins (meaning s) m (meaning (withPins pins s))
-unpins-mean s m pins e = let P : List ℕ → Type 0 = λ ps. Unpins (meaning s) m (meaning (withPins ps s)) in subst P (sym e) (unpins s m)
-
 pub every-without : (p : ℕ → Bool) (m : ℕ) (xs pins : List ℕ) → pins ≡ without m xs → every p xs ≡ true → every p pins ≡ true
 every-without p m xs pins e h = ap (every p) e ∙ every-kept p (λ x. not (eqb x m)) xs h
-
-pub unpins-past : (s : Store) (m : ℕ) (pins : List ℕ) → pins ≡ without m (s .pins) → Good s → every (λ pin. leb pin (s .latest)) pins ≡ true
-unpins-past s m pins e good = every-without (λ pin. leb pin (s .latest)) m (s .pins) pins e (good .past)
-
-pub unpins-kept : (s : Store) (m : ℕ) (pins : List ℕ) → pins ≡ without m (s .pins) → Good s → every (λ n. leb (s .floor) n) (s .latest ∷ pins) ≡ true
-unpins-kept s m pins e good =
-    let parts = and-parts _ _ (good .kept) in and-from _ _ (parts .0) (every-without (λ n. leb (s .floor) n) m (s .pins) pins e (parts .1))
 
 -- the lowest held moment
 
@@ -167,17 +143,18 @@ writes s cs good =
     let part = neededOf s in
     let ps = s .present in
     record {
-        latest = refl;
-        answer = refl;
-        pins = λ n. refl;
-        states = λ n t k a.
-            let h = held-past s n good (or-right _ _ a) in
-            states-before (l + 1) n cs ps part t k (omega arith)
-            ∙ ap (λ xs. undone xs (holding (rowsOf ps)) t k) (later-later (lowest s) n (s .entries) (lowest-held s n (or-right _ _ a)));
-        newest = λ t k.
-            state-late (l + 1) (presentAfterAll (l + 1) cs ps) (entriesAfterAll (l + 1) cs ps part) t k (commits-changes (l + 1) cs ps part (commits-later l (lowest s) (s .entries) (good .commits)))
-            ∙ put-presents (l + 1) cs ps t k
-            ∙ changed-same cs (holding (rowsOf ps)) (stateAt ps (s .entries) l) (λ a b. sym (state-late l ps (s .entries) a b (good .commits))) t k }
+      latest = refl;
+      answer = refl;
+      pins = λ n. refl;
+      states = λ n t k a.
+          let h = held-past s n good (or-right _ _ a) in
+          states-before (l + 1) n cs ps part t k (omega arith)
+          ∙ ap (λ xs. undone xs (holding (rowsOf ps)) t k) (later-later (lowest s) n (s .entries) (lowest-held s n (or-right _ _ a)));
+      newest = λ t k.
+          state-late (l + 1) (presentAfterAll (l + 1) cs ps) (entriesAfterAll (l + 1) cs ps part) t k (commits-changes (l + 1) cs ps part (commits-later l (lowest s) (s .entries) (good .commits)))
+          ∙ put-presents (l + 1) cs ps t k
+          ∙ changed-same cs (holding (rowsOf ps)) (stateAt ps (s .entries) l) (λ a b. sym (state-late l ps (s .entries) a b (good .commits))) t k;
+    }
 
 -- what of a good store a write has to keep
 pub record Lasting (s : Store) : Type 0 where
@@ -200,14 +177,15 @@ lasting s cs good =
     let commits = commits-later l low es (good .commits) in
     let dates = dated-part l low ps es (good .dates) in
     record {
-        past = every-from (λ pin. leb pin (l + 1)) (s .pins) (λ n a. let h = held-past s n good (or-right _ _ a) in le-leb n (l + 1) (omega arith));
-        kept = and-from _ _ (le-leb low (l + 1) (omega arith)) (every-from (λ n. leb low n) (s .pins) (λ n a. le-leb low n (lowest-held s n (or-right _ _ a))));
-        single = unique-changes (l + 1) cs ps (good .single);
-        ascends = ascending-changes (l + 1) cs ps (later low es) (ascending-later low es (good .ascends)) commits;
-        commits = commits-changes (l + 1) cs ps (later low es) commits;
-        dates = dated-changes (l + 1) cs ps (later low es) dates;
-        told = told-changes low (l + 1) cs ps (later low es) (omega arith) (told-part (s .floor) low ps es (lowest-floor s good) (good .told));
-        apart = shown-written (s .floor) low l cs ps es (lowest-floor s good) (good .single) dates commits (good .apart) }
+      past = every-from (λ pin. leb pin (l + 1)) (s .pins) (λ n a. let h = held-past s n good (or-right _ _ a) in le-leb n (l + 1) (omega arith));
+      kept = and-from _ _ (le-leb low (l + 1) (omega arith)) (every-from (λ n. leb low n) (s .pins) (λ n a. le-leb low n (lowest-held s n (or-right _ _ a))));
+      single = unique-changes (l + 1) cs ps (good .single);
+      ascends = ascending-changes (l + 1) cs ps (later low es) (ascending-later low es (good .ascends)) commits;
+      commits = commits-changes (l + 1) cs ps (later low es) commits;
+      dates = dated-changes (l + 1) cs ps (later low es) dates;
+      told = told-changes low (l + 1) cs ps (later low es) (omega arith) (told-part (s .floor) low ps es (lowest-floor s good) (good .told));
+      apart = shown-written (s .floor) low l cs ps es (lowest-floor s good) (good .single) dates commits (good .apart);
+    }
 
 -- the store with the needed entries and the changes, as a write leaves it
 abbrev pub leftBy : Store → ℕ → List Present → List Entry → Store
@@ -223,12 +201,6 @@ writes-lasting s cs t e good = subst Lasting (sym e) (lasting s cs good)
 
 pub writes-mean : (s : Store) (cs : List Change) (t : Store) → t ≡ written cs s → Good s → Written (meaning s) cs (s .latest + 1) (meaning t)
 writes-mean s cs t e good = let P : Store → Type 0 = λ z. Written (meaning s) cs (s .latest + 1) (meaning z) in subst P (sym e) (writes s cs good)
-
--- the needed entries are at most the kept ones
-pub needed-few : (s : Store) → length (neededOf s) ≤ length (s .entries)
-needed-few s =
-    let p : Entry → Bool = λ entry. ltb (lowest s) (entry .commit) in
-    omega (arith, length-kept-by p (s .entries), countBy-le-length p (s .entries))
 
 -- the entries that a write has kept are the needed ones
 pub needed-part : (s : UndoStore) (low n : ℕ) (part : List Entry) → low ≡ lowest (storeOf s) → n ≡ length (later low (waiting (s .ledger .line) (now (s .ledger .journal))))
@@ -250,20 +222,21 @@ writes-left s cs low kept left l part same size grown ps es =
     let S : ℕ → Store = λ n. record { size = n; latest = N; floor = low; pins = vec-items (s .pins .moments); present = vec-items (left .present); entries = waiting (left .line) (now (left .journal)) } in
     ap S (grown .size ∙ size)
     ∙ writes-to (storeOf s) cs low (waiting (kept .line) (now (kept .journal))) (waiting (left .line) (now (left .journal))) (vec-items (left .present)) l part
-      (ps ∙ ap (λ p. presentAfterAll N cs (vec-items p)) same)
-      (es ∙ ap (λ p. entriesAfterAll N cs (vec-items p) (waiting (kept .line) (now (kept .journal)))) same)
+    (ps ∙ ap (λ p. presentAfterAll N cs (vec-items p)) same)
+    (es ∙ ap (λ p. entriesAfterAll N cs (vec-items p) (waiting (kept .line) (now (kept .journal)))) same)
 
 -- an empty store
 empty : (size first : ℕ) → Lasting (emptyAt size first)
 empty size first = record {
-    past = refl;
-    kept = and-from _ _ (le-leb first first (omega arith)) refl;
-    single = refl;
-    ascends = refl;
-    commits = refl;
-    dates = refl;
-    told = refl;
-    apart = λ m t k. ⊎-elim (λ (e : leb first m ≡ true). rw e refl) (λ (e : leb first m ≡ false). rw e refl) (cases-bool (leb first m)) }
+  past = refl;
+  kept = and-from _ _ (le-leb first first (omega arith)) refl;
+  single = refl;
+  ascends = refl;
+  commits = refl;
+  dates = refl;
+  told = refl;
+  apart = λ m t k. ⊎-elim (λ (e : leb first m ≡ true). rw e refl) (λ (e : leb first m ≡ false). rw e refl) (cases-bool (leb first m));
+}
 
 pub made-empty : (l : Ledger) (pins : List ℕ) (size first : ℕ) → pins ≡ [] → vec-items (l .present) ≡ [] → l .line .len ≡ 0 → l .line .size ≡ size → storeFrom first first pins l ≡ emptyAt size first
 made-empty l pins size first p e none s =

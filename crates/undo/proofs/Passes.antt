@@ -1,14 +1,13 @@
 -- A pass over versions finds what the definitions say.
 use mathlib.Core.Path.{_≡_, refl, sym, ap, _∙_}
-use mathlib.Core.Bool.{Bool, true, false, cond, _&&_}
+use mathlib.Core.Bool.{Bool, true, false, cond}
 use mathlib.Core.List.{List, [], _∷_, _++_, map}
-use mathlib.Core.Logic.{_⊎_, inl, inr, ⊎-elim}
+use mathlib.Core.Logic.{_⊎_, ⊎-elim}
 use Prim.Native.Nat.{ℕ, _+_, _≤_, _<_}
 use native.Mathlib.Omega.{arith}
-use lib.Dec.{leb, ltb}
 use lib.ListN.{length, take, getD}
 use Rattle.std.proofs.shelf.Tests.{cases-bool, cond-true, cond-false}
-use Rattle.std.proofs.shelf.Lists.{take-more, append-assoc, append-nil, map-append, map-more, length-append, length-map, length-take}
+use Rattle.std.proofs.shelf.Lists.{append-assoc, append-nil, map-append, map-more, length-append, length-map, length-take}
 use Rattle.std.proofs.shelf.Sums.{length-kept-by, countBy-le-length}
 use Rattle.std.specs.declared.option.Option.{Option}
 use Rattle.std.specs.declared.option.Option.the-variants.{Some, None}
@@ -19,7 +18,7 @@ use Rattle.terms.specs.declared.record.Row.{Row}
 use Rattle.terms.specs.declared.record.Query.{Query}
 use Rattle.database.specs.declared.scan.Scan.{Scan}
 use Rattle.database.specs.Rows.{matches}
-use Rattle.database.specs.Scans.{summary, turnedBy, readBy}
+use Rattle.database.specs.Scans.{summary}
 use Rattle.database.proofs.Turns.{kept-push, turn-push, read-push, pass-push}
 use Rattle.line.proofs.Rings.{walk-more, walk-none, got-within}
 use Rattle.undo.specs.declared.entry.Held.{Held}
@@ -90,12 +89,12 @@ found-push floor m q vs v few =
     let f = few-rows m vs in
     ⊎-elim
     (λ e. cond-true (matches q (v .row)) _ _ e
-        ∙ ap (readIf (visible m v) q (v .row)) (turns-end floor m q (rowsAt m vs) ns v)
-        ∙ rows-end m q vs (ns ++ turnsBy (isAbove floor) v) v (omega arith) e
-        ∙ ap (summary m q (rowsAt m (vs ++ v ∷ []))) (sym (turns ∙ cond-true (matches q (v .row)) _ _ e)))
+    ∙ ap (readIf (visible m v) q (v .row)) (turns-end floor m q (rowsAt m vs) ns v)
+    ∙ rows-end m q vs (ns ++ turnsBy (isAbove floor) v) v (omega arith) e
+    ∙ ap (summary m q (rowsAt m (vs ++ v ∷ []))) (sym (turns ∙ cond-true (matches q (v .row)) _ _ e)))
     (λ e. cond-false (matches q (v .row)) _ _ e
-        ∙ unread-end m q vs ns v e
-        ∙ ap (summary m q (rowsAt m (vs ++ v ∷ []))) (sym (turns ∙ cond-false (matches q (v .row)) _ _ e)))
+    ∙ unread-end m q vs ns v e
+    ∙ ap (summary m q (rowsAt m (vs ++ v ∷ []))) (sym (turns ∙ cond-false (matches q (v .row)) _ _ e)))
     (cases-bool (matches q (v .row)))
 
 -- one more present record
@@ -137,7 +136,7 @@ entry-more floor m q ps es i n e scan next at most few inv is =
     is ∙ ap (scannedAll floor m q (replacedBy e)) inv
     ∙ former-push floor m q vs (e .id) (e .commit) (e .former) (omega arith)
     ∙ ap (found floor m q) (append-assoc (map current ps) (joined replacedBy (take i es)) (replacedBy e)
-        ∙ ap (λ xs. map current ps ++ xs) (sym (joined-push replacedBy (take i es) e) ∙ ap (joined replacedBy) (sym (walk-more es i e at))))
+    ∙ ap (λ xs. map current ps ++ xs) (sym (joined-push replacedBy (take i es) e) ∙ ap (joined replacedBy) (sym (walk-more es i e at))))
 
 pub entry-none : (floor m : ℕ) (q : Query) (ps : List Present) (es : List Entry) (i : ℕ) (scan next : Scan) → None ≡ nth es i
     → scan ≡ found floor m q (versions ps (take i es)) → next ≡ scan → next ≡ found floor m q (versions ps (take (i + 1) es))

@@ -2,14 +2,14 @@
 use mathlib.Core.Path.{_≡_, refl, sym, ap, _∙_}
 use mathlib.Core.Bool.{Bool, true, false, cond, _&&_, _||_, not}
 use mathlib.Core.List.{List, [], _∷_, _++_, map}
-use mathlib.Core.Logic.{_⊎_, inl, inr, ⊎-elim}
+use mathlib.Core.Logic.{_⊎_, ⊎-elim}
 use Prim.Native.Nat.{ℕ, _+_, _-_, _≤_, _<_}
 use native.Mathlib.Omega.{arith}
 use lib.Dec.{leb, ltb, eqb}
 use lib.ListN.{length}
 use Rattle.std.proofs.shelf.Ways.{tells as telling}
-use Rattle.std.proofs.shelf.Tests.{cases-bool, cases-lt, cond-true, cond-false, leb-true, leb-false, le-leb, lt-leb, ltb-true, ltb-false, lt-ltb, le-ltb, eqb-true, eq-eqb, and-from, and-parts, and-left, and-right, or-parts}
-use Rattle.std.proofs.shelf.Lists.{append-nil, append-assoc, map-append, length-append, nil-from-length}
+use Rattle.std.proofs.shelf.Tests.{cases-bool, cases-lt, cond-true, cond-false, leb-true, le-leb, lt-leb, ltb-false, lt-ltb, le-ltb, eq-eqb, and-from, and-parts, and-left, and-right, or-parts}
+use Rattle.std.proofs.shelf.Lists.{append-nil, length-append, nil-from-length}
 use Rattle.std.specs.declared.option.Option.{Option}
 use Rattle.std.specs.declared.option.Option.the-variants.{Some, None}
 use Rattle.std.specs.shelf.Lists.{kept-by, joined}
@@ -18,16 +18,15 @@ use Rattle.terms.specs.declared.record.Value.{Value}
 use Rattle.terms.specs.declared.record.Row.{Row}
 use Rattle.terms.specs.declared.record.Change.{Change}
 use Rattle.terms.specs.declared.record.Change.the-variants.{Set, Delete}
-use Rattle.terms.specs.Records.{isId, changeId, changeValue}
-use Rattle.database.specs.Lists.{any, every}
+use Rattle.terms.specs.Records.{isId, changeId}
+use Rattle.database.specs.Lists.{every}
 use Rattle.database.specs.Rows.{holding, present, unique}
-use Rattle.database.proofs.Rows.{same-id}
 use Rattle.undo.specs.declared.entry.Held.{Held}
 use Rattle.undo.specs.declared.entry.Present.{Present}
 use Rattle.undo.specs.declared.entry.Entry.{Entry}
 use Rattle.undo.specs.declared.entry.Version.{Version}
-use Rattle.undo.specs.Journals.{undone, later, rowsOf, stateAt, heldOf, otherThan, fresh, presentAfter, leaves, entriesBy, presentAfterAll, entriesAfterAll}
-use Rattle.undo.specs.Versions.{current, former, replacedBy, versions, lasts, visible, rowsAt, dated, valuesIn, isOnly, isShown}
+use Rattle.undo.specs.Journals.{undone, later, rowsOf, stateAt, heldOf, otherThan, fresh, presentAfter, entriesBy, presentAfterAll, entriesAfterAll}
+use Rattle.undo.specs.Versions.{current, former, replacedBy, versions, visible, rowsAt, dated, valuesIn, isOnly, isShown}
 use Rattle.undo.proofs.Undoing.{later-later, states-before, state-late, commits-changes}
 use Rattle.undo.proofs.Telling.{joined-append, versions-change, dated-changes}
 
@@ -89,9 +88,9 @@ shown-joined m t k (v ∷ vs) =
     let at : RecordId = record { table = t; key = k } in
     ⊎-elim
     (λ (a : visible m v ≡ true). ⊎-elim
-        (λ (b : isId (v .row .id) at ≡ true). rw a (rw b (ap (λ xs. v .row .value ∷ xs) ih)))
-        (λ (b : isId (v .row .id) at ≡ false). rw a (rw b ih))
-        (cases-bool (isId (v .row .id) at)))
+    (λ (b : isId (v .row .id) at ≡ true). rw a (rw b (ap (λ xs. v .row .value ∷ xs) ih)))
+    (λ (b : isId (v .row .id) at ≡ false). rw a (rw b ih))
+    (cases-bool (isId (v .row .id) at)))
     (λ (a : visible m v ≡ false). rw a ih)
     (cases-bool (visible m v))
 
@@ -108,8 +107,8 @@ kept-other m t k id (p ∷ ps) h =
     ⊎-elim
     (λ (e : otherThan id p ≡ true). rw e (ap (λ xs. shows m t k (current p) ++ xs) ih))
     (λ (e : otherThan id p ≡ false).
-        let o : isId (p .row .id) at ≡ false = grind (arith, telling) in
-        rw e (ih ∙ sym (nil-append _ _ _ (shows-other m t k (current p) o) refl)))
+    let o : isId (p .row .id) at ≡ false = grind (arith, telling) in
+    rw e (ih ∙ sym (nil-append _ _ _ (shows-other m t k (current p) o) refl)))
     (cases-bool (otherThan id p))
 
 kept-none : (m t k : ℕ) (id : RecordId) (ps : List Present) → isId id (record { table = t; key = k }) ≡ true → joined (shows m t k) (map current (kept-by (otherThan id) ps)) ≡ []
@@ -119,8 +118,8 @@ kept-none m t k id (p ∷ ps) h =
     let at : RecordId = record { table = t; key = k } in
     ⊎-elim
     (λ (e : otherThan id p ≡ true).
-        let o : isId (p .row .id) at ≡ false = grind (arith, telling) in
-        rw e (nil-append _ _ _ (shows-other m t k (current p) o) ih))
+    let o : isId (p .row .id) at ≡ false = grind (arith, telling) in
+    rw e (nil-append _ _ _ (shows-other m t k (current p) o) ih))
     (λ (e : otherThan id p ≡ false). rw e ih)
     (cases-bool (otherThan id p))
 
@@ -153,17 +152,17 @@ former-held N m t k id (p ∷ ps) h i u =
     let ih = former-held N m t k id ps h i in
     ⊎-elim
     (λ (e : isId id (p .row .id) ≡ true).
-        let here : isId (p .row .id) at ≡ true = grind (arith, telling) in
-        let out : present (p .row .id) (rowsOf ps) ≡ false = grind arith in
-        let rest = absent-none m t k (p .row .id) ps here out in
-        let w : Version = record { row = record { id = id; value = p .row .value }; made = p .made; replaced = Some N } in
-        let seen : visible m w ≡ visible m (current p) = ap (λ b. leb (p .made) m && b) (lt-ltb m N h) in
-        let one : shows m t k w ≡ shows m t k (current p) = ap (λ b. cond b (p .row .value ∷ []) []) (ap (λ b. b && isId id at) seen ∙ ap (λ b. visible m (current p) && b) (i ∙ sym here)) in
-        rw e (ap (λ xs. shows m t k (current p) ++ xs) rest ∙ ap (λ xs. xs ++ []) (sym one)))
+    let here : isId (p .row .id) at ≡ true = grind (arith, telling) in
+    let out : present (p .row .id) (rowsOf ps) ≡ false = grind arith in
+    let rest = absent-none m t k (p .row .id) ps here out in
+    let w : Version = record { row = record { id = id; value = p .row .value }; made = p .made; replaced = Some N } in
+    let seen : visible m w ≡ visible m (current p) = ap (λ b. leb (p .made) m && b) (lt-ltb m N h) in
+    let one : shows m t k w ≡ shows m t k (current p) = ap (λ b. cond b (p .row .value ∷ []) []) (ap (λ b. b && isId id at) seen ∙ ap (λ b. visible m (current p) && b) (i ∙ sym here)) in
+    rw e (ap (λ xs. shows m t k (current p) ++ xs) rest ∙ ap (λ xs. xs ++ []) (sym one)))
     (λ (e : isId id (p .row .id) ≡ false).
-        let o : isId (p .row .id) at ≡ false = grind (arith, telling) in
-        let u2 : unique (rowsOf ps) ≡ true = grind arith in
-        rw e (nil-append _ _ _ (shows-other m t k (current p) o) (ih u2)))
+    let o : isId (p .row .id) at ≡ false = grind (arith, telling) in
+    let u2 : unique (rowsOf ps) ≡ true = grind arith in
+    rw e (nil-append _ _ _ (shows-other m t k (current p) o) (ih u2)))
     (cases-bool (isId id (p .row .id)))
 
 -- one change at N, before N
@@ -182,19 +181,19 @@ shown-change N m t k c ps es o h u is =
     let at : RecordId = record { table = t; key = k } in
     let old : joined f (map current ps) ++ joined f E ≡ only o = sym (parts m t k ps es) ∙ is in
     let split : joined f ((A ++ F) ++ (E ++ X)) ≡ (joined f A ++ joined f F) ++ (joined f E ++ joined f X) =
-        joined-append f (A ++ F) (E ++ X) ∙ ap (λ xs. xs ++ joined f (E ++ X)) (joined-append f A F) ∙ ap (λ xs. (joined f A ++ joined f F) ++ xs) (joined-append f E X) in
+    joined-append f (A ++ F) (E ++ X) ∙ ap (λ xs. xs ++ joined f (E ++ X)) (joined-append f A F) ∙ ap (λ xs. (joined f A ++ joined f F) ++ xs) (joined-append f E X) in
     let front : joined f A ++ joined f F ≡ joined f A = ap (λ xs. joined f A ++ xs) (fresh-none N m t k c h) ∙ append-nil (joined f A) in
     ap (joined f) (versions-change N c ps es) ∙ split ∙ ap (λ xs. xs ++ (joined f E ++ joined f X)) front
     ∙ ⊎-elim
-      (λ (i : isId id at ≡ true).
-        nil-append (joined f A) (joined f E ++ joined f X) (only o) (kept-none m t k id ps i)
-        (ap (λ xs. joined f E ++ xs) (sym (former-held N m t k id ps h i u))
-            ∙ swap (joined f (map current ps)) (joined f E) (let l = only-few o in let e = ap length old in omega arith) ∙ old))
-      (λ (i : isId id at ≡ false).
-        ap (λ xs. xs ++ (joined f E ++ joined f X)) (kept-other m t k id ps i)
-        ∙ ap (λ xs. joined f (map current ps) ++ xs) (ap (λ xs. joined f E ++ xs) (former-other N m t k id (heldOf id ps) i) ∙ append-nil (joined f E))
-        ∙ old)
-      (cases-bool (isId id at))
+    (λ (i : isId id at ≡ true).
+    nil-append (joined f A) (joined f E ++ joined f X) (only o) (kept-none m t k id ps i)
+    (ap (λ xs. joined f E ++ xs) (sym (former-held N m t k id ps h i u))
+    ∙ swap (joined f (map current ps)) (joined f E) (let l = only-few o in let e = ap length old in omega arith) ∙ old))
+    (λ (i : isId id at ≡ false).
+    ap (λ xs. xs ++ (joined f E ++ joined f X)) (kept-other m t k id ps i)
+    ∙ ap (λ xs. joined f (map current ps) ++ xs) (ap (λ xs. joined f E ++ xs) (former-other N m t k id (heldOf id ps) i) ∙ append-nil (joined f E))
+    ∙ old)
+    (cases-bool (isId id at))
 
 -- no record stands twice, after a change
 
@@ -300,8 +299,8 @@ shown-part low m t k (e ∷ es) h =
     ⊎-elim
     (λ (a : ltb low (e .commit) ≡ true). rw a (joined-append f (replacedBy e) (joined replacedBy (later low es)) ∙ ap (λ xs. joined f (replacedBy e) ++ xs) ih ∙ sym whole))
     (λ (a : ltb low (e .commit) ≡ false).
-        let c = ltb-false low (e .commit) a in
-        rw a (ih ∙ sym (whole ∙ nil-append _ _ _ (former-late (e .commit) m t k (e .id) (e .former) (omega arith)) refl)))
+    let c = ltb-false low (e .commit) a in
+    rw a (ih ∙ sym (whole ∙ nil-append _ _ _ (former-late (e .commit) m t k (e .id) (e .former) (omega arith)) refl)))
     (cases-bool (ltb low (e .commit)))
 
 every-le : (n m : ℕ) (es : List Entry) → n ≤ m → every (λ e. leb (e .commit) n) es ≡ true → every (λ e. leb (e .commit) m) es ≡ true
@@ -333,16 +332,16 @@ shown-written floor low l cs ps es h u d e was m t k =
     let ps2 = presentAfterAll N cs ps in
     let es2 = entriesAfterAll N cs ps (later low es) in
     shown-to low m t k ps2 es2 (λ (a : low ≤ m). ⊎-elim
-        (λ (b : m < N).
-            let f = shows m t k in
-            let old : joined f (versions ps es) ≡ only (stateAt ps es m t k) = sym (shown-joined m t k (versions ps es)) ∙ shown-from floor m t k ps es (was m t k) (omega arith) in
-            let less : joined f (versions ps (later low es)) ≡ only (stateAt ps es m t k) =
-                parts m t k ps (later low es) ∙ ap (λ xs. joined f (map current ps) ++ xs) (shown-part low m t k es a) ∙ sym (parts m t k ps es) ∙ old in
-            let same : stateAt ps2 es2 m t k ≡ stateAt ps es m t k =
-                states-before N m cs ps (later low es) t k b ∙ ap (λ xs. undone xs (holding (rowsOf ps)) t k) (later-later low m es a) in
-            shown-before N m t k cs ps (later low es) (stateAt ps es m t k) b u less ∙ ap only (sym same))
-        (λ (b : N ≤ m).
-            let late = every-le N m es2 b (commits-changes N cs ps (later low es) e) in
-            let dates = every-front (dated N) (map current ps2) (joined replacedBy es2) (dated-changes N cs ps (later low es) d) in
-            shown-late N m t k ps2 es2 b dates late (unique-changes N cs ps u) ∙ ap only (sym (state-late m ps2 es2 t k late)))
-        (cases-lt m N))
+    (λ (b : m < N).
+    let f = shows m t k in
+    let old : joined f (versions ps es) ≡ only (stateAt ps es m t k) = sym (shown-joined m t k (versions ps es)) ∙ shown-from floor m t k ps es (was m t k) (omega arith) in
+    let less : joined f (versions ps (later low es)) ≡ only (stateAt ps es m t k) =
+    parts m t k ps (later low es) ∙ ap (λ xs. joined f (map current ps) ++ xs) (shown-part low m t k es a) ∙ sym (parts m t k ps es) ∙ old in
+    let same : stateAt ps2 es2 m t k ≡ stateAt ps es m t k =
+    states-before N m cs ps (later low es) t k b ∙ ap (λ xs. undone xs (holding (rowsOf ps)) t k) (later-later low m es a) in
+    shown-before N m t k cs ps (later low es) (stateAt ps es m t k) b u less ∙ ap only (sym same))
+    (λ (b : N ≤ m).
+    let late = every-le N m es2 b (commits-changes N cs ps (later low es) e) in
+    let dates = every-front (dated N) (map current ps2) (joined replacedBy es2) (dated-changes N cs ps (later low es) d) in
+    shown-late N m t k ps2 es2 b dates late (unique-changes N cs ps u) ∙ ap only (sym (state-late m ps2 es2 t k late)))
+    (cases-lt m N))

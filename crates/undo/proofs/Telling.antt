@@ -1,36 +1,33 @@
 -- What changes and discarding make of the versions that present records and entries tell.
 use mathlib.Core.Path.{_≡_, refl, sym, ap, _∙_}
-use mathlib.Core.Bool.{Bool, true, false, cond, _&&_, _||_, not}
+use mathlib.Core.Bool.{Bool, true, false, cond, _&&_, _||_}
 use mathlib.Core.List.{List, [], _∷_, _++_, map}
-use mathlib.Core.Logic.{_⊎_, inl, inr, ⊎-elim}
+use mathlib.Core.Logic.{_⊎_, ⊎-elim}
 use Prim.Native.Nat.{ℕ, _+_, _-_, _≤_, _<_}
 use native.Mathlib.Omega.{arith}
-use lib.Dec.{leb, ltb, eqb}
-use lib.ListN.{length}
+use lib.Dec.{ltb, eqb}
 use Rattle.std.proofs.shelf.Ways.{tells as telling}
-use Rattle.std.proofs.shelf.Tests.{cases-bool, cases-lt, cond-true, cond-false, leb-true, leb-false, le-leb, lt-leb, ltb-true, ltb-false, lt-ltb, le-ltb, ne-eqb, eq-eqb, eqb-true, and-from, and-parts, and-left, and-right, or-left, or-right, or-from, not-from-false, not-true}
-use Rattle.std.proofs.shelf.Lists.{append-nil, append-assoc, map-append, length-append, nil-from-length}
+use Rattle.std.proofs.shelf.Tests.{cases-bool, cond-true, cond-false, leb-true, le-leb, ltb-true, ltb-false, lt-ltb, ne-eqb, eq-eqb, and-from, and-parts, and-right, or-left, or-right, or-from, not-from-false, not-true}
+use Rattle.std.proofs.shelf.Lists.{append-nil, append-assoc, map-append}
 use Rattle.std.specs.declared.option.Option.{Option}
 use Rattle.std.specs.declared.option.Option.the-variants.{Some, None}
 use Rattle.std.specs.shelf.Lists.{kept-by, joined}
 use Rattle.terms.specs.declared.record.RecordId.{RecordId}
-use Rattle.terms.specs.declared.record.Value.{Value}
 use Rattle.terms.specs.declared.record.Row.{Row}
 use Rattle.terms.specs.declared.record.Change.{Change}
 use Rattle.terms.specs.declared.record.Change.the-variants.{Set, Delete}
-use Rattle.terms.specs.Records.{isId, changeId, changeValue}
-use Rattle.database.specs.Lists.{any, every}
+use Rattle.terms.specs.Records.{isId, changeId}
+use Rattle.database.specs.Lists.{every}
 use Rattle.database.specs.States.{Records}
-use Rattle.database.specs.Rows.{holding, present, unique}
+use Rattle.database.specs.Rows.{present}
 use Rattle.database.proofs.Rows.{same-id}
 use Rattle.database.proofs.Turns.{every-append, every-weaker}
 use Rattle.undo.specs.declared.entry.Held.{Held}
 use Rattle.undo.specs.declared.entry.Present.{Present}
 use Rattle.undo.specs.declared.entry.Entry.{Entry}
 use Rattle.undo.specs.declared.entry.Version.{Version}
-use Rattle.undo.specs.Journals.{later, rowsOf, stateAt, heldOf, otherThan, fresh, presentAfter, leaves, entriesBy, presentAfterAll, entriesAfterAll}
-use Rattle.undo.specs.Versions.{current, former, replacedBy, versions, tells, isTold, lasts, visible, rowsAt, replacedUpto, dated, rightly, valuesIn, isOnly, isShown}
-use Rattle.undo.proofs.Undoing.{later-later, states-before, state-late}
+use Rattle.undo.specs.Journals.{later, heldOf, otherThan, fresh, presentAfter, leaves, entriesBy, presentAfterAll, entriesAfterAll}
+use Rattle.undo.specs.Versions.{current, former, replacedBy, versions, tells, isTold, replacedUpto, dated, rightly}
 
 pub joined-append : {X Y : Type 0} (f : X → List Y) (xs ys : List X) → joined f (xs ++ ys) ≡ joined f xs ++ joined f ys
 joined-append f [] ys = refl
@@ -40,9 +37,10 @@ joined-append f (x ∷ xs) ys = ap (λ zs. f x ++ zs) (joined-append f xs ys) �
 by-former : (N : ℕ) (c : Change) (ps : List Present) → joined replacedBy (entriesBy N c ps) ≡ former (changeId c) N (heldOf (changeId c) ps)
 by-former N c ps =
     let go : (c : Change) (held : Option Held) → joined replacedBy (cond (leaves c held) ((record { commit = N; id = changeId c; former = held }) ∷ []) []) ≡ former (changeId c) N held
-        = λ c. elim c as (λ c. (held : Option Held) → joined replacedBy (cond (leaves c held) ((record { commit = N; id = changeId c; former = held }) ∷ []) []) ≡ former (changeId c) N held)
-            [ Set id value ↦ λ held. append-nil (former id N held)
-            | Delete id ↦ λ held. elim held as (λ held. joined replacedBy (cond (leaves (Delete id) held) ((record { commit = N; id = id; former = held }) ∷ []) []) ≡ former id N held) [ None ↦ refl | Some x ↦ refl ] ] in
+    = λ c. elim c as (λ c. (held : Option Held) → joined replacedBy (cond (leaves c held) ((record { commit = N; id = changeId c; former = held }) ∷ []) []) ≡ former (changeId c) N held) [
+      | Set id value ↦ λ held. append-nil (former id N held)
+      | Delete id ↦ λ held. elim held as (λ held. joined replacedBy (cond (leaves (Delete id) held) ((record { commit = N; id = id; former = held }) ∷ []) []) ≡ former id N held) [ None ↦ refl | Some x ↦ refl ]
+    ] in
     go c (heldOf (changeId c) ps)
 
 pub versions-change : (N : ℕ) (c : Change) (ps : List Present) (es : List Entry)
@@ -51,7 +49,7 @@ pub versions-change : (N : ℕ) (c : Change) (ps : List Present) (es : List Entr
 versions-change N c ps es =
     ap (λ xs. xs ++ joined replacedBy (es ++ entriesBy N c ps)) (map-append current (kept-by (otherThan (changeId c)) ps) (fresh N c))
     ∙ ap (λ xs. (map current (kept-by (otherThan (changeId c)) ps) ++ map current (fresh N c)) ++ xs)
-      (joined-append replacedBy es (entriesBy N c ps) ∙ ap (λ xs. joined replacedBy es ++ xs) (by-former N c ps))
+    (joined-append replacedBy es (entriesBy N c ps) ∙ ap (λ xs. joined replacedBy es ++ xs) (by-former N c ps))
 
 -- what holds of all versions
 
@@ -74,8 +72,8 @@ every-former p q N id (x ∷ ps) go h =
     let V : RecordId → Version = λ i. record { row = record { id = i; value = x .row .value }; made = x .made; replaced = Some N } in
     ⊎-elim
     (λ (e : isId id (x .row .id) ≡ true).
-        let is : id ≡ x .row .id = same-id id (x .row .id) e in
-        rw e (and-from _ _ (ap (λ i. q (V i)) is ∙ go (x .row) (x .made) (parts .0)) refl))
+    let is : id ≡ x .row .id = same-id id (x .row .id) e in
+    rw e (and-from _ _ (ap (λ i. q (V i)) is ∙ go (x .row) (x .made) (parts .0)) refl))
     (λ (e : isId id (x .row .id) ≡ false). rw e ih)
     (cases-bool (isId id (x .row .id)))
 
@@ -88,8 +86,8 @@ every-change p q N c ps es weaker go new h =
     ap (every q) (versions-change N c ps es)
     ∙ every-append q (map current (kept-by (otherThan id) ps) ++ map current (fresh N c)) (joined replacedBy es ++ former id N (heldOf id ps))
     ∙ and-from _ _
-      (every-append q (map current (kept-by (otherThan id) ps)) (map current (fresh N c)) ∙ and-from _ _ (up (map current (kept-by (otherThan id) ps)) (every-current p id ps (parts .0))) new)
-      (every-append q (joined replacedBy es) (former id N (heldOf id ps)) ∙ and-from _ _ (up (joined replacedBy es) (parts .1)) (every-former p q N id ps go (parts .0)))
+    (every-append q (map current (kept-by (otherThan id) ps)) (map current (fresh N c)) ∙ and-from _ _ (up (map current (kept-by (otherThan id) ps)) (every-current p id ps (parts .0))) new)
+    (every-append q (joined replacedBy es) (former id N (heldOf id ps)) ∙ and-from _ _ (up (joined replacedBy es) (parts .1)) (every-former p q N id ps go (parts .0)))
 
 -- the dates
 
@@ -157,13 +155,13 @@ rightly-change floor N c ps es h v r =
     let all = tells-append es (entriesBy N c ps) id (v .made) in
     ⊎-elim
     (λ (a : ltb floor (v .made) ≡ true).
-        let was : tells es id (v .made) ≡ true = sym (cond-true (ltb floor (v .made)) _ _ a) ∙ r in
-        cond-true (ltb floor (v .made)) _ _ a ∙ all ∙ or-left _ _ was)
+    let was : tells es id (v .made) ≡ true = sym (cond-true (ltb floor (v .made)) _ _ a) ∙ r in
+    cond-true (ltb floor (v .made)) _ _ a ∙ all ∙ or-left _ _ was)
     (λ (a : ltb floor (v .made) ≡ false).
-        let below = ltb-false floor (v .made) a in
-        let was : tells es id (v .made) ≡ false = not-true _ (sym (cond-false (ltb floor (v .made)) _ _ a) ∙ r) in
-        let new = tells-one (leaves c (heldOf (changeId c) ps)) (record { commit = N; id = changeId c; former = heldOf (changeId c) ps }) id (v .made) (ne-eqb (v .made) N (λ is. omega arith)) in
-        cond-false (ltb floor (v .made)) _ _ a ∙ not-from-false _ (all ∙ or-from _ _ was new))
+    let below = ltb-false floor (v .made) a in
+    let was : tells es id (v .made) ≡ false = not-true _ (sym (cond-false (ltb floor (v .made)) _ _ a) ∙ r) in
+    let new = tells-one (leaves c (heldOf (changeId c) ps)) (record { commit = N; id = changeId c; former = heldOf (changeId c) ps }) id (v .made) (ne-eqb (v .made) N (λ is. omega arith)) in
+    cond-false (ltb floor (v .made)) _ _ a ∙ not-from-false _ (all ∙ or-from _ _ was new))
     (cases-bool (ltb floor (v .made)))
 
 rightly-fresh : (floor N : ℕ) (c : Change) (ps : List Present) (es : List Entry) → floor < N → every (rightly floor (es ++ entriesBy N c ps)) (map current (fresh N c)) ≡ true
@@ -191,10 +189,10 @@ rightly-later floor low es h v r =
     let all = tells-later low es (v .row .id) (v .made) in
     ⊎-elim
     (λ (a : ltb low (v .made) ≡ true).
-        let above = ltb-true low (v .made) a in
-        let b = lt-ltb floor (v .made) (omega arith) in
-        let was : isTold es v ≡ true = sym (cond-true (ltb floor (v .made)) _ _ b) ∙ r in
-        cond-true (ltb low (v .made)) _ _ a ∙ all ∙ and-from _ _ was a)
+    let above = ltb-true low (v .made) a in
+    let b = lt-ltb floor (v .made) (omega arith) in
+    let was : isTold es v ≡ true = sym (cond-true (ltb floor (v .made)) _ _ b) ∙ r in
+    cond-true (ltb low (v .made)) _ _ a ∙ all ∙ and-from _ _ was a)
     (λ (a : ltb low (v .made) ≡ false). cond-false (ltb low (v .made)) _ _ a ∙ not-from-false _ (all ∙ and-right _ _ a))
     (cases-bool (ltb low (v .made)))
 

@@ -1,28 +1,25 @@
 -- Undoing what changes have left in the journal gives back the records before them.
 use mathlib.Core.Path.{_≡_, refl, sym, ap, _∙_}
-use mathlib.Core.Bool.{Bool, true, false, cond, _&&_, not}
-use mathlib.Core.List.{List, [], _∷_, _++_, map}
-use mathlib.Core.Logic.{_⊎_, inl, inr, ⊎-elim}
+use mathlib.Core.Bool.{Bool, true, false, cond, not}
+use mathlib.Core.List.{List, [], _∷_, _++_}
+use mathlib.Core.Logic.{_⊎_, ⊎-elim}
 use Prim.Native.Nat.{ℕ, _+_, _-_, _≤_, _<_, suc}
 use native.Mathlib.Omega.{arith}
-use native.Mathlib.Numerals.{add-one}
-use lib.Dec.{leb, ltb, eqb}
+use lib.Dec.{leb, ltb}
 use lib.ListN.{length, drop}
 use Rattle.std.proofs.shelf.Ways.{tells}
-use Rattle.std.proofs.shelf.Tests.{cases-bool, cond-true, cond-false, leb-true, leb-false, le-leb, lt-leb, ltb-true, ltb-false, lt-ltb, le-ltb, and-from, and-parts, both-ways}
-use Rattle.std.proofs.shelf.Lists.{append-nil, map-append}
+use Rattle.std.proofs.shelf.Tests.{cases-bool, cond-true, cond-false, leb-true, le-leb, ltb-true, ltb-false, lt-ltb, le-ltb, and-from, and-parts}
+use Rattle.std.proofs.shelf.Lists.{append-nil}
 use Rattle.std.proofs.shelf.Elements.{kept-by-append}
 use Rattle.std.proofs.shelf.Sums.{length-kept-by, countBy-le-length}
 use Rattle.std.specs.declared.option.Option.{Option}
 use Rattle.std.specs.declared.option.Option.the-variants.{Some, None}
-use Rattle.std.specs.shelf.Lists.{kept-by}
 use Rattle.terms.specs.declared.record.RecordId.{RecordId}
 use Rattle.terms.specs.declared.record.Value.{Value}
-use Rattle.terms.specs.declared.record.Row.{Row}
 use Rattle.terms.specs.declared.record.Change.{Change}
 use Rattle.terms.specs.declared.record.Change.the-variants.{Set, Delete}
 use Rattle.terms.specs.Records.{isId, changeId, changeValue}
-use Rattle.database.specs.Lists.{any, every, among}
+use Rattle.database.specs.Lists.{every}
 use Rattle.database.specs.States.{Records}
 use Rattle.database.specs.Rows.{holding}
 use Rattle.database.specs.Writes.{put, changed}
@@ -31,7 +28,7 @@ use Rattle.database.proofs.Turns.{every-append}
 use Rattle.undo.specs.declared.entry.Held.{Held}
 use Rattle.undo.specs.declared.entry.Present.{Present}
 use Rattle.undo.specs.declared.entry.Entry.{Entry}
-use Rattle.undo.specs.Journals.{formerValue, undo, undone, later, rowsOf, stateAt, heldOf, otherThan, fresh, presentAfter, leaves, entriesBy, presentAfterAll, entriesAfterAll, ascending}
+use Rattle.undo.specs.Journals.{formerValue, undo, undone, later, rowsOf, stateAt, heldOf, otherThan, presentAfter, leaves, entriesBy, presentAfterAll, entriesAfterAll, ascending}
 
 -- entries that are not later, and entries that still are
 
@@ -86,13 +83,13 @@ put-cons N c p ps t k ih =
     let at : RecordId = record { table = t; key = k } in
     ⊎-elim
     (λ (e : otherThan id p ≡ true). rw e (⊎-elim
-        (λ (f : isId (p .row .id) at ≡ true). rw f (let g : isId id at ≡ false = grind (arith, tells) in rw g refl))
-        (λ (f : isId (p .row .id) at ≡ false). rw f ih)
-        (cases-bool (isId (p .row .id) at))))
+    (λ (f : isId (p .row .id) at ≡ true). rw f (let g : isId id at ≡ false = grind (arith, tells) in rw g refl))
+    (λ (f : isId (p .row .id) at ≡ false). rw f ih)
+    (cases-bool (isId (p .row .id) at))))
     (λ (e : otherThan id p ≡ false). rw e (⊎-elim
-        (λ (f : isId id at ≡ true). rw f (ih ∙ ap (λ b. cond b (changeValue c) (holding (rowsOf ps) t k)) f))
-        (λ (f : isId id at ≡ false). rw f (let g : isId (p .row .id) at ≡ false = grind (arith, tells) in rw g (ih ∙ ap (λ b. cond b (changeValue c) (holding (rowsOf ps) t k)) f)))
-        (cases-bool (isId id at))))
+    (λ (f : isId id at ≡ true). rw f (ih ∙ ap (λ b. cond b (changeValue c) (holding (rowsOf ps) t k)) f))
+    (λ (f : isId id at ≡ false). rw f (let g : isId (p .row .id) at ≡ false = grind (arith, tells) in rw g (ih ∙ ap (λ b. cond b (changeValue c) (holding (rowsOf ps) t k)) f)))
+    (cases-bool (isId id at))))
     (cases-bool (otherThan id p))
 
 pub put-present : (N : ℕ) (c : Change) (ps : List Present) (t k : ℕ) → holding (rowsOf (presentAfter N c ps)) t k ≡ put c (holding (rowsOf ps)) t k
@@ -129,20 +126,20 @@ undo-change N c ps t k =
     let b = leaves c former in
     undone-one b e after t k
     ∙ ⊎-elim
-      (λ (is : isId id at ≡ true).
-        let same : id ≡ at = same-id id at is in
-        let was : formerValue former ≡ holding (rowsOf ps) t k = ap (λ x. formerValue (heldOf x ps)) same ∙ held-holding ps t k in
-        ⊎-elim
-        (λ (l : b ≡ true). cond-true b _ _ l ∙ cond-true (isId id at) _ _ is ∙ was)
-        (λ (l : b ≡ false). cond-false b _ _ l ∙ put-present N c ps t k ∙ cond-true (isId id at) _ _ is ∙ leaves-none c former l ∙ was)
-        (cases-bool b))
-      (λ (is : isId id at ≡ false).
-        let still : after t k ≡ holding (rowsOf ps) t k = put-present N c ps t k ∙ cond-false (isId id at) _ _ is in
-        ⊎-elim
-        (λ (l : b ≡ true). cond-true b _ _ l ∙ cond-false (isId id at) _ _ is ∙ still)
-        (λ (l : b ≡ false). cond-false b _ _ l ∙ still)
-        (cases-bool b))
-      (cases-bool (isId id at))
+    (λ (is : isId id at ≡ true).
+    let same : id ≡ at = same-id id at is in
+    let was : formerValue former ≡ holding (rowsOf ps) t k = ap (λ x. formerValue (heldOf x ps)) same ∙ held-holding ps t k in
+    ⊎-elim
+    (λ (l : b ≡ true). cond-true b _ _ l ∙ cond-true (isId id at) _ _ is ∙ was)
+    (λ (l : b ≡ false). cond-false b _ _ l ∙ put-present N c ps t k ∙ cond-true (isId id at) _ _ is ∙ leaves-none c former l ∙ was)
+    (cases-bool b))
+    (λ (is : isId id at ≡ false).
+    let still : after t k ≡ holding (rowsOf ps) t k = put-present N c ps t k ∙ cond-false (isId id at) _ _ is in
+    ⊎-elim
+    (λ (l : b ≡ true). cond-true b _ _ l ∙ cond-false (isId id at) _ _ is ∙ still)
+    (λ (l : b ≡ false). cond-false b _ _ l ∙ still)
+    (cases-bool b))
+    (cases-bool (isId id at))
 
 -- entries of a commit are later than each moment before it
 later-one : (m : ℕ) (b : Bool) (e : Entry) → m < e .commit → later m (cond b (e ∷ []) []) ≡ cond b (e ∷ []) []
@@ -154,8 +151,8 @@ state-before N m c ps es t k h =
     let fs = entriesBy N c ps in
     let after = holding (rowsOf (presentAfter N c ps)) in
     let split : later m (es ++ fs) ≡ later m es ++ fs =
-        kept-by-append (λ e. ltb m (e .commit)) es fs
-        ∙ ap (λ xs. later m es ++ xs) (later-one m (leaves c (heldOf (changeId c) ps)) (record { commit = N; id = changeId c; former = heldOf (changeId c) ps }) h) in
+    kept-by-append (λ e. ltb m (e .commit)) es fs
+    ∙ ap (λ xs. later m es ++ xs) (later-one m (leaves c (heldOf (changeId c) ps)) (record { commit = N; id = changeId c; former = heldOf (changeId c) ps }) h) in
     ap (λ xs. undone xs after t k) split
     ∙ undone-append (later m es) fs after t k
     ∙ undone-same (later m es) (undone fs after) (holding (rowsOf ps)) (undo-change N c ps) t k
@@ -239,13 +236,13 @@ newest low (e ∷ es) a =
     let parts = and-parts _ _ a in
     ⊎-elim
     (λ (b : ltb low (e .commit) ≡ true).
-        let all : later low (e ∷ es) ≡ e ∷ es = rw b (ap (λ xs. e ∷ xs) (later-all low e es (ltb-true low (e .commit) b) (parts .0))) in
-        let z : length (e ∷ es) - length (later low (e ∷ es)) ≡ 0 = omega (arith, ap length all) in
-        ap (λ n. drop n (e ∷ es)) z ∙ sym all)
+    let all : later low (e ∷ es) ≡ e ∷ es = rw b (ap (λ xs. e ∷ xs) (later-all low e es (ltb-true low (e .commit) b) (parts .0))) in
+    let z : length (e ∷ es) - length (later low (e ∷ es)) ≡ 0 = omega (arith, ap length all) in
+    ap (λ n. drop n (e ∷ es)) z ∙ sym all)
     (λ (b : ltb low (e .commit) ≡ false).
-        let less : later low (e ∷ es) ≡ later low es = rw b refl in
-        let f = length-kept-by (λ x. ltb low (x .commit)) es in
-        let g = countBy-le-length (λ x. ltb low (x .commit)) es in
-        let z : length (e ∷ es) - length (later low (e ∷ es)) ≡ suc (length es - length (later low es)) = omega (arith, ap length less) in
-        ap (λ n. drop n (e ∷ es)) z ∙ newest low es (parts .1) ∙ sym less)
+    let less : later low (e ∷ es) ≡ later low es = rw b refl in
+    let f = length-kept-by (λ x. ltb low (x .commit)) es in
+    let g = countBy-le-length (λ x. ltb low (x .commit)) es in
+    let z : length (e ∷ es) - length (later low (e ∷ es)) ≡ suc (length es - length (later low es)) = omega (arith, ap length less) in
+    ap (λ n. drop n (e ∷ es)) z ∙ newest low es (parts .1) ∙ sym less)
     (cases-bool (ltb low (e .commit)))

@@ -1,15 +1,13 @@
 -- Steps of loops over present records and entries.
 use mathlib.Core.Path.{_≡_, refl, sym, ap, _∙_}
-use mathlib.Core.Bool.{Bool, true, false, cond}
+use mathlib.Core.Bool.{true, false}
 use mathlib.Core.List.{List, [], _∷_, _++_}
-use mathlib.Core.Logic.{_⊎_, inl, inr, ⊎-elim}
 use Prim.Native.Nat.{ℕ, _+_, _-_, _≤_, _<_, min}
 use Rattle.database.specs.Lists.{least}
 use native.Mathlib.Omega.{arith}
-use lib.Dec.{leb, ltb}
+use lib.Dec.{ltb}
 use lib.ListN.{length, take, drop, getD}
-use Rattle.std.proofs.shelf.Ways.{tells}
-use Rattle.std.proofs.shelf.Tests.{cases-bool, cond-true, cond-false, lt-ltb, le-ltb}
+use Rattle.std.proofs.shelf.Tests.{cond-true, cond-false}
 use Rattle.std.proofs.shelf.Lists.{at-drop-more, append-nil}
 use Rattle.std.specs.declared.option.Option.{Option}
 use Rattle.std.specs.declared.option.Option.the-variants.{Some, None}
@@ -23,12 +21,11 @@ use Rattle.terms.specs.declared.record.Value.{Value}
 use Rattle.terms.specs.declared.record.Change.{Change}
 use Rattle.terms.specs.declared.record.Change.the-variants.{Set, Delete}
 use Rattle.terms.specs.Records.{isId, changeId}
-use Rattle.undo.specs.declared.entry.Held.{Held}
 use Rattle.undo.specs.declared.entry.Present.{Present}
 use Rattle.undo.specs.declared.entry.Entry.{Entry}
 use Rattle.undo.specs.declared.ledger.Ledger.{Ledger}
 use Rattle.undo.specs.Ledgers.{Roomy, Grown}
-use Rattle.undo.specs.Journals.{heldOf, otherThan, presentAfter, entriesBy, entriesAfterAll, later}
+use Rattle.undo.specs.Journals.{heldOf, otherThan, presentAfter, later}
 
 -- looking for what is held of a record
 pub held-here : (id : RecordId) (ps : List Present) (i : ℕ) (d : Present) → i < length ps → heldOf id (drop i ps) ≡ heldOf id ps → isId id ((getD ps i d) .row .id) ≡ true
@@ -54,26 +51,29 @@ delete-present N c id xs ys is e =
 -- the room after changes
 pub grown-step : (i : ℕ) (a b d : Ledger) → Grown i a b → Grown 1 b d → Grown (i + 1) a d
 grown-step i a b d g h = record {
-    rows = omega (arith, g .rows, h .rows);
-    capacity = h .capacity ∙ g .capacity;
-    places = omega (arith, g .places, h .places);
-    size = h .size ∙ g .size;
-    fits = h .fits }
+  rows = omega (arith, g .rows, h .rows);
+  capacity = h .capacity ∙ g .capacity;
+  places = omega (arith, g .places, h .places);
+  size = h .size ∙ g .size;
+  fits = h .fits;
+}
 
 -- room for all is room for one more, where not all have come
 pub grown-room : (n i : ℕ) (a b : Ledger) → Roomy n a → Grown i a b → i < n → Roomy 1 b
 grown-room n i a b r g h = record {
-    rows = omega (arith, r .rows, g .rows, g .capacity);
-    places = omega (arith, r .places, g .places, g .size);
-    fits = g .fits }
+  rows = omega (arith, r .rows, g .rows, g .capacity);
+  places = omega (arith, r .places, g .places, g .size);
+  fits = g .fits;
+}
 
 pub grown-all : (n i : ℕ) (a b : Ledger) → Grown i a b → i ≤ n → Grown n a b
 grown-all n i a b g h = record {
-    rows = omega (arith, g .rows);
-    capacity = g .capacity;
-    places = omega (arith, g .places);
-    size = g .size;
-    fits = g .fits }
+  rows = omega (arith, g .rows);
+  capacity = g .capacity;
+  places = omega (arith, g .places);
+  size = g .size;
+  fits = g .fits;
+}
 
 -- counting the entries above a moment
 abbrev pub Counting : ℕ → List Entry → ℕ → ℕ → Type 0

@@ -1,7 +1,7 @@
 -- What the undo store holds, what that means, and what each call makes of it.
 use mathlib.Core.Path.{_≡_}
 use mathlib.Core.Bool.{Bool, true, _&&_, cond}
-use mathlib.Core.List.{List, [], _∷_, map}
+use mathlib.Core.List.{List, [], _∷_}
 use Prim.Native.Nat.{ℕ, _+_, _-_, _≤_, min}
 use lib.Dec.{leb, ltb}
 use lib.ListN.{length}
@@ -38,8 +38,13 @@ pub record Store : Type 0 where
 -- what lies in memory, with these moments
 abbrev pub storeFrom : ℕ → ℕ → List ℕ → Ledger → Store
 storeFrom latest floor pins ledger = record {
-    size = ledger .line .size; latest = latest; floor = floor; pins = pins;
-    present = vec-items (ledger .present); entries = waiting (ledger .line) (now (ledger .journal)) }
+  size = ledger .line .size;
+  latest = latest;
+  floor = floor;
+  pins = pins;
+  present = vec-items (ledger .present);
+  entries = waiting (ledger .line) (now (ledger .journal));
+}
 
 -- the lowest held moment
 abbrev pub lowest : Store → ℕ
@@ -88,9 +93,13 @@ unpinnedAll s = withPins [] s
 -- an accepted write discards the entries that are not needed, and then makes its changes at the moment after the latest
 abbrev pub written : List Change → Store → Store
 written changes s = record {
-    size = s .size; latest = s .latest + 1; floor = lowest s; pins = s .pins;
-    present = presentAfterAll (s .latest + 1) changes (s .present);
-    entries = entriesAfterAll (s .latest + 1) changes (s .present) (neededOf s) }
+  size = s .size;
+  latest = s .latest + 1;
+  floor = lowest s;
+  pins = s .pins;
+  present = presentAfterAll (s .latest + 1) changes (s .present);
+  entries = entriesAfterAll (s .latest + 1) changes (s .present) (neededOf s);
+}
 
 -- for how long a query's reading at a moment is right
 abbrev pub validity : Store → ℕ → Query → Interval

@@ -2,7 +2,7 @@
 ghost use mathlib.Core.Path.{_≡_};
 ghost use mathlib.Core.Bool.{Bool, true, false, _&&_, _||_, not};
 ghost use mathlib.Core.List.{_∷_};
-ghost use Prim.Native.Nat.{ℕ, _≤_};
+ghost use Prim.Native.Nat.{ℕ};
 ghost use denote.Ref.{now};
 ghost use lib.Dec.{eqb, leb, ltb};
 ghost use lib.ListN.{length};
@@ -11,7 +11,7 @@ ghost use Rattle.std.specs.Vec.{made};
 ghost use Rattle.std.specs.Of.Vec.{vec-items};
 ghost use Rattle.database.specs.Lists.{every, among, least, added, without};
 ghost use Rattle.database.specs.Databases.{held, PinsLatest, Unpins, UnpinsAll, Asks, Writes};
-ghost use Rattle.undo.specs.Stores.{Store, lowest, inRange, Refused, storeFrom, storeOf, meaning, emptyAt, pinned, unpinned, unpinnedAll, written, validity};
+ghost use Rattle.undo.specs.Stores.{lowest, inRange, Refused, storeOf, meaning, emptyAt, pinned, unpinned, unpinnedAll, written, validity};
 use crate::entry::Entry;
 use crate::ledger::Ledger;
 use crate::store::UndoStore;
@@ -68,7 +68,11 @@ fn unpin_one(pins: &mut Pins, moment: Moment)
 
 impl<'a> UndoStore<'a> {
     // A store that keeps its entries in this journal, empty at its first moment. Its size is the journal's length.
-    pub fn new(heap: Global, journal: &'a mut [Entry], first: Moment) -> Result<UndoStore<'a>, Fault>
+    pub fn new(
+        heap: Global,
+        journal: &'a mut [Entry],
+        first: Moment,
+    ) -> Result<UndoStore<'a>, Fault>
         ensures { λ r. ⌜ Cases r (λ s. (inRange (length (now (journal .entry))) first ≡ true) × (storeOf s ≡ emptyAt (length (now (journal .entry))) first)) (λ fault. Refused (length (now (journal .entry))) first fault) ⌝ }
     {
         let size = journal.len();

@@ -54,14 +54,20 @@ fn scan_entry(found: Scan, floor: Moment, moment: Moment, query: Query, entry: E
     ensures { λ r. ⌜ r ≡ scannedAll floor moment query (replacedBy entry) found ⌝ }
 {
     match entry.former {
-        Some(held) => scan_version(found, floor, moment, query, Version {
-            row: Row {
-                id: entry.id,
-                value: held.value,
+        Some(held) => scan_version(
+            found,
+            floor,
+            moment,
+            query,
+            Version {
+                row: Row {
+                    id: entry.id,
+                    value: held.value,
+                },
+                made: held.made,
+                replaced: Some(entry.commit),
             },
-            made: held.made,
-            replaced: Some(entry.commit),
-        }),
+        ),
         None => found,
     }
 }
@@ -73,11 +79,17 @@ fn scan_present(present: &[Present], floor: Moment, moment: Moment, query: Query
 {
     let mut scan = Scan::new();
     for p in present {
-        scan = scan_version(scan, floor, moment, query, Version {
-            row: p.row,
-            made: p.made,
-            replaced: None,
-        });
+        scan = scan_version(
+            scan,
+            floor,
+            moment,
+            query,
+            Version {
+                row: p.row,
+                made: p.made,
+                replaced: None,
+            },
+        );
     }
     scan
 }

@@ -15,11 +15,11 @@ use terms::Until;
 use terms::Value;
 
 const DOOR: RecordId = RecordId { table: 0, key: 5 };
+
 const OTHER: RecordId = RecordId { table: 0, key: 6 };
-const TICKET: RecordId = RecordId {
-    table: 1,
-    key: 900,
-};
+
+const TICKET: RecordId = RecordId { table: 1, key: 900 };
+
 const BLANK: Entry = Entry {
     commit: 0,
     id: RecordId { table: 0, key: 0 },
@@ -65,9 +65,15 @@ fn a_day(rt: LibcRuntime) -> Result<(), Fail> {
     check_eq(number(store.pin()), 10)?;
     check_eq(number(store.write(&[set(DOOR, 0, 0)])), 11)?;
     check_eq(number(store.pin()), 11)?;
-    check_eq(number(store.write(&[set(TICKET, 1, 5), set(DOOR, 1, 900)])), 12)?;
+    check_eq(
+        number(store.write(&[set(TICKET, 1, 5), set(DOOR, 1, 900)])),
+        12,
+    )?;
     check_eq(number(store.pin()), 12)?;
-    check_eq(number(store.write(&[Change::Delete { id: TICKET }, set(DOOR, 0, 0)])), 13)?;
+    check_eq(
+        number(store.write(&[Change::Delete { id: TICKET }, set(DOOR, 0, 0)])),
+        13,
+    )?;
     let door = Query::Get { id: DOOR };
     let ticket = Query::Get { id: TICKET };
     let free_doors = Query::Tally { table: 0, state: 0 };
@@ -97,10 +103,15 @@ fn discards_what_no_held_moment_needs(rt: LibcRuntime) -> Result<(), Fail> {
     check_eq(number(store.write(&[set(DOOR, 0, 7)])), 13).note("an equal value leaves an entry")?;
     check_eq(told(store.ask(12, door)), (0, 7, 0, 13))?;
     check_eq(number(store.write(&[set(OTHER, 0, 0)])), 14)?;
-    check_eq(number(store.write(&[Change::Delete { id: OTHER }])), 47).note("both entries are needed")?;
+    check_eq(number(store.write(&[Change::Delete { id: OTHER }])), 47).note(
+        "both entries are needed",
+    )?;
     store.unpin(12);
     check_eq(store.free(), 0).note("both rows are in use")?;
-    check_eq(told(store.ask(14, Query::Tally { table: 0, state: 0 })), (2, 5, 14, 114))
+    check_eq(
+        told(store.ask(14, Query::Tally { table: 0, state: 0 })),
+        (2, 5, 14, 114),
+    )
 }
 
 #[test]

@@ -1,5 +1,5 @@
-use mathlib.Core.Path.{refl, sym, ap, _∙_}
-use Rattle.std.proofs.shelf.Lists.{at-drop-more, at-drop-all}
+use mathlib.Core.Path.{refl, sym, _∙_}
+use Rattle.std.proofs.shelf.Lists.{at-drop-all}
 use Rattle.database.specs.Lists.{least}
 use Rattle.undo.proofs.Walks.{least-step}
 use Rattle.undo.proofs.calls.lowest_of.Needs as need

@@ -1,5 +1,4 @@
 use mathlib.Core.Path.{_≡_}
-use Prim.Native.Nat.{min}
 use lib.ListN.{drop}
 use Rattle.database.specs.Lists.{least}
 use Rattle.undo.proofs.calls.lowest_of.Given as given

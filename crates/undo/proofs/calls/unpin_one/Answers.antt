@@ -10,6 +10,7 @@ returns c =
     let before = vec-items (c .args .pins .now .moments) in
     let m = c .args .moment in
     record {
-        items = c .remove .ensures;
-        among = λ n. ap (among n) (c .remove .ensures) ∙ among-without n m before;
-        every = λ p h. every-without p m before _ (c .remove .ensures) h }
+      items = c .remove .ensures;
+      among = λ n. ap (among n) (c .remove .ensures) ∙ among-without n m before;
+      every = λ p h. every-without p m before _ (c .remove .ensures) h;
+    }

@@ -10,9 +10,10 @@ pub returns-in-Set : need.returns-in-Set
 returns-in-Set c =
     let out = c .take-out .ensures .items ∙ ap (λ id. kept-by (otherThan id) (vec-items (c .args .present .now))) (c .id .ensures) in
     record {
-        items = set-present (c .args .moment) (c .args .change) (c .in-Set .id) (c .in-Set .value) _ _ _ (c .in-Set .is) out (c .push-reserved .ensures .items);
-        capacity = search needs;
-        len = search needs }
+      items = set-present (c .args .moment) (c .args .change) (c .in-Set .id) (c .in-Set .value) _ _ _ (c .in-Set .is) out (c .push-reserved .ensures .items);
+      capacity = search needs;
+      len = search needs;
+    }
 
 pub returns-in-Delete : need.returns-in-Delete
 returns-in-Delete c =

@@ -1,4 +1,4 @@
-use mathlib.Core.Path.{sym, ap, _∙_, refl}
+use mathlib.Core.Path.{sym, _∙_, refl}
 use Rattle.std.proofs.shelf.Lists.{at-drop-all}
 use Rattle.undo.specs.Journals.{heldOf}
 use Rattle.undo.proofs.Walks.{held-here, held-on}

@@ -11,6 +11,7 @@ returns c =
     let before = vec-items (c .args .present .now) in
     let p = otherThan (c .args .id) in
     record {
-        items = c .retain .ensures .items;
-        capacity = c .retain .ensures .capacity;
-        len = omega (arith, ap length (c .retain .ensures .items), length-kept-by p before, countBy-le-length p before, c .retain .last .list .ok .0, c .args .present .now .ok .0) }
+      items = c .retain .ensures .items;
+      capacity = c .retain .ensures .capacity;
+      len = omega (arith, ap length (c .retain .ensures .items), length-kept-by p before, countBy-le-length p before, c .retain .last .list .ok .0, c .args .present .now .ok .0);
+    }

@@ -1,12 +1,10 @@
 use mathlib.Core.Bool.{true}
 use mathlib.Core.Path.{_≡_, sym, ap, _∙_, subst}
 use native.Mathlib.Omega.{arith}
-use Rattle.std.specs.Of.Vec.{vec-items}
 use Rattle.database.specs.Databases.{Answers, held}
 use Rattle.database.specs.declared.Answer.{Answer}
 use Rattle.database.specs.Scans.{scanAnswer}
 use Rattle.undo.specs.Stores.{storeOf, meaning}
-use Rattle.undo.specs.Scans.{found}
 use Rattle.undo.proofs.Meanings.{good}
 use Rattle.undo.proofs.Asking.{answerAt, answers, answer-found}
 use Rattle.undo.proofs.calls.UndoDatabase.ask.Needs as need
@@ -20,7 +18,7 @@ returns c =
     let m = c .args .moment in
     let q = c .args .query in
     let is : c .answer .result ≡ answerAt (storeOf s) m q =
-        c .answer .ensures ∙ ap (scanAnswer (s .latest) q) (c .scan-scan .ensures) ∙ answer-found (storeOf s) m q (good s) in
+    c .answer .ensures ∙ ap (scanAnswer (s .latest) q) (c .scan-scan .ensures) ∙ answer-found (storeOf s) m q (good s) in
     let kept : held (meaning (storeOf s)) m ≡ true = sym (c .holds .ensures) ∙ c .if-not-holds .left in
     let P : Answer → Type 0 = λ a. Answers (meaning (storeOf s)) m q a in
     record { means = (kept, subst P (sym is) (answers (storeOf s) m q (good s) kept)); exact = ap (λ a. a .interval) is }

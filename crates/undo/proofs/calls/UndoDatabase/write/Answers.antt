@@ -1,4 +1,4 @@
-use mathlib.Core.Path.{_≡_, sym, ap, _∙_}
+use mathlib.Core.Path.{sym, ap, _∙_}
 use native.Mathlib.Omega.{arith}
 use borrow.Author.Needs.{needs}
 use Prim.Native.Nat.{_+_, _≤_}
@@ -21,9 +21,10 @@ change-all-requires c κs =
     let fits : l .line .size ≤ length (now (l .journal)) = omega (arith, c .keep .ensures .size, s .fits) in
     let here = length-waiting-fits (l .line) (now (l .journal)) fits in
     record {
-        rows = omega (arith, ap vec-len (c .keep .ensures .present), ap vec-cap (c .keep .ensures .present), s .room, s .ledger .present .ok .0, room .1, c .free .ensures);
-        places = omega (arith, ap length part, room .1, c .free .ensures, c .keep .ensures .size);
-        fits = fits }
+      rows = omega (arith, ap vec-len (c .keep .ensures .present), ap vec-cap (c .keep .ensures .present), s .room, s .ledger .present .ok .0, room .1, c .free .ensures);
+      places = omega (arith, ap length part, room .1, c .free .ensures, c .keep .ensures .size);
+      fits = fits;
+    }
 
 pub ghost-self : need.ghost-self
 ghost-self c =
@@ -35,13 +36,22 @@ ghost-self c =
     let part = needed-part s (c .lowest-lowest .result) (c .needed-needed .result) _ (c .lowest-lowest .ensures) (c .needed-needed .ensures) (c .keep .ensures .entries) in
     let room = no-refusal (s .latest) (c .free .result) cs (sym (c .in-rest .ensures tt)) in
     let to = writes-left s cs (c .lowest-lowest .result) (c .keep .last .self) l (c .lowest-lowest .ensures) part kept (c .keep .ensures .size) grown (c .change-all .ensures .present) (c .change-all .ensures .entries) in
-    let w = writes-lasting (storeOf s) cs (storeFrom (s .latest + 1) (c .lowest-lowest .result) (vec-items (s .pins .moments)) l) to (good s) in
-    (omega (arith, grown .size, c .keep .ensures .size, s .size),
-        (omega (arith, grown .capacity, grown .size, ap vec-cap kept, c .keep .ensures .size, s .room),
-        (grown .fits,
-        (omega (arith, grown .rows, grown .size, ap vec-len kept, c .keep .ensures .size, s .ledger .present .ok .0, room .1, c .free .ensures),
-        (omega (arith, room .0),
-        (w .past, (w .kept, (w .single, (w .ascends, (w .commits, (w .dates, (w .told, (w .apart, tt)))))))))))))
+    let w = writes-lasting (storeOf s) cs (storeFrom (s .latest + 1) (c .lowest-lowest .result) (vec-items (s .pins .moments)) l) to (good s) in (
+      omega (arith, grown .size, c .keep .ensures .size, s .size),
+      (
+        omega (arith, grown .capacity, grown .size, ap vec-cap kept, c .keep .ensures .size, s .room),
+        (
+          grown .fits,
+          (
+            omega (arith, grown .rows, grown .size, ap vec-len kept, c .keep .ensures .size, s .ledger .present .ok .0, room .1, c .free .ensures),
+            (
+              omega (arith, room .0),
+              (w .past, (w .kept, (w .single, (w .ascends, (w .commits, (w .dates, (w .told, (w .apart, tt)))))))),
+            ),
+          ),
+        ),
+      ),
+    )
 
 pub returns : need.returns
 returns c =
@@ -51,6 +61,7 @@ returns c =
     let part = needed-part s (c .lowest-lowest .result) (c .needed-needed .result) _ (c .lowest-lowest .ensures) (c .needed-needed .ensures) (c .keep .ensures .entries) in
     let to = writes-left s cs (c .lowest-lowest .result) (c .keep .last .self) l (c .lowest-lowest .ensures) part (c .keep .ensures .present) (c .keep .ensures .size) (c .change-all .ensures .grown) (c .change-all .ensures .present) (c .change-all .ensures .entries) in
     record {
-        means = (ap (λ free. refusal (s .latest) free cs) (sym (c .free .ensures)) ∙ sym (c .in-rest .ensures tt), writes-mean (storeOf s) cs (storeFrom (s .latest + 1) (c .lowest-lowest .result) (vec-items (s .pins .moments)) l) to (good s));
-        keeps = λ _. to;
-        same = λ e. search needs }
+      means = (ap (λ free. refusal (s .latest) free cs) (sym (c .free .ensures)) ∙ sym (c .in-rest .ensures tt), writes-mean (storeOf s) cs (storeFrom (s .latest + 1) (c .lowest-lowest .result) (vec-items (s .pins .moments)) l) to (good s));
+      keeps = λ _. to;
+      same = λ e. search needs;
+    }

@@ -1,8 +1,7 @@
 use mathlib.Core.Path.{sym, ap, _∙_}
 use mathlib.Core.List.{List}
-use native.Mathlib.Omega.{arith}
 use Prim.Native.Nat.{_+_}
-use lib.ListN.{drop, getD}
+use lib.ListN.{drop}
 use denote.Ref.{now}
 use Rattle.std.specs.Of.Vec.{vec-items}
 use Rattle.std.proofs.shelf.Lists.{at-drop-more, at-drop-all}
@@ -24,10 +23,11 @@ loop-change-again c =
     let N = c .args .moment in
     let P : List Change → List Present = λ xs. presentAfterAll N xs (vec-items (c .loop-change .self .present)) in
     let E : List Change → List Entry = λ xs. entriesAfterAll N xs (vec-items (c .loop-change .self .present)) (waiting (c .loop-change .self .line) (now (c .loop-change .self .journal))) in
-    let fs = waiting (c .change-one .last .self .line) (now (c .change-one .last .self .journal)) in
-    ( ap (λ x. entriesAfterAll N (drop (i + 1) cs) x fs) (c .change-one .ensures .present) ∙ ap (entriesAfterAll N (drop (i + 1) cs) _) (c .change-one .ensures .entries) ∙ sym (at-drop-more E cs i _ (c .loop-change-test .taken)) ∙ c .loop-change .inv .0
-    , ap (presentAfterAll N (drop (i + 1) cs)) (c .change-one .ensures .present) ∙ sym (at-drop-more P cs i _ (c .loop-change-test .taken)) ∙ c .loop-change .inv .1
-    , grown-step _ _ _ _ (c .loop-change .inv .2) (c .change-one .ensures .grown) )
+    let fs = waiting (c .change-one .last .self .line) (now (c .change-one .last .self .journal)) in (
+      ap (λ x. entriesAfterAll N (drop (i + 1) cs) x fs) (c .change-one .ensures .present) ∙ ap (entriesAfterAll N (drop (i + 1) cs) _) (c .change-one .ensures .entries) ∙ sym (at-drop-more E cs i _ (c .loop-change-test .taken)) ∙ c .loop-change .inv .0,
+      ap (presentAfterAll N (drop (i + 1) cs)) (c .change-one .ensures .present) ∙ sym (at-drop-more P cs i _ (c .loop-change-test .taken)) ∙ c .loop-change .inv .1,
+      grown-step _ _ _ _ (c .loop-change .inv .2) (c .change-one .ensures .grown),
+    )
 
 pub returns : need.returns
 returns c =
@@ -37,6 +37,7 @@ returns c =
     let P : List Change → List Present = λ xs. presentAfterAll N xs (vec-items (c .loop-change .self .present)) in
     let E : List Change → List Entry = λ xs. entriesAfterAll N xs (vec-items (c .loop-change .self .present)) (waiting (c .loop-change .self .line) (now (c .loop-change .self .journal))) in
     record {
-        entries = sym (at-drop-all E cs i (c .loop-change-test .left)) ∙ c .loop-change .inv .0;
-        present = sym (at-drop-all P cs i (c .loop-change-test .left)) ∙ c .loop-change .inv .1;
-        grown = grown-all _ _ _ _ (c .loop-change .inv .2) (c .loop-change .kept .change-index-end) }
+      entries = sym (at-drop-all E cs i (c .loop-change-test .left)) ∙ c .loop-change .inv .0;
+      present = sym (at-drop-all P cs i (c .loop-change-test .left)) ∙ c .loop-change .inv .1;
+      grown = grown-all _ _ _ _ (c .loop-change .inv .2) (c .loop-change .kept .change-index-end);
+    }

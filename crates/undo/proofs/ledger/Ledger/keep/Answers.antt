@@ -13,7 +13,8 @@ returns c =
     let all = waiting (l .line) (now (l .journal)) in
     let n : c .saturating-sub .result ≡ l .line .len - c .args .newest = omega arith in
     record {
-        entries = waiting-skipped (l .line) (c .skip .last .self) (now (l .journal)) _ (c .skip .ensures) ∙ ap (λ k. drop k all) n;
-        present = refl;
-        size = c .skip .ensures .size;
-        journal = refl }
+      entries = waiting-skipped (l .line) (c .skip .last .self) (now (l .journal)) _ (c .skip .ensures) ∙ ap (λ k. drop k all) n;
+      present = refl;
+      size = c .skip .ensures .size;
+      journal = refl;
+    }

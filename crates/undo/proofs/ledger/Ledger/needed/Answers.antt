@@ -1,4 +1,4 @@
-use mathlib.Core.Path.{_≡_, sym, ap, _∙_}
+use mathlib.Core.Path.{sym, ap, _∙_}
 use native.Mathlib.Omega.{arith}
 use lib.ListN.{length}
 use denote.Ref.{now}
@@ -18,9 +18,10 @@ loop-i-again c =
     let i = c .loop-i .i in
     let n = c .loop-i .needed in
     elim (c .match-entry .came) [
-    | in-Some·then-is-needed w ↦ later-more low es i (w .in-Some .entry) n _ (w .in-Some .ensures tt) (sym (w .if-is-needed .ensures tt)) (c .loop-i .inv) (w .needed-is)
-    | in-Some·else-is-needed w ↦ later-less low es i (w .in-Some .entry) n _ (w .in-Some .ensures tt) (sym (w .if-is-needed .ensures tt)) (c .loop-i .inv) (w .needed-is)
-    | in-rest w ↦ later-none low es i n _ (w .in-rest .ensures tt) (c .loop-i .inv) (w .needed-is) ]
+      | in-Some·then-is-needed w ↦ later-more low es i (w .in-Some .entry) n _ (w .in-Some .ensures tt) (sym (w .if-is-needed .ensures tt)) (c .loop-i .inv) (w .needed-is)
+      | in-Some·else-is-needed w ↦ later-less low es i (w .in-Some .entry) n _ (w .in-Some .ensures tt) (sym (w .if-is-needed .ensures tt)) (c .loop-i .inv) (w .needed-is)
+      | in-rest w ↦ later-none low es i n _ (w .in-rest .ensures tt) (c .loop-i .inv) (w .needed-is)
+    ]
 
 pub returns : need.returns
 returns c =

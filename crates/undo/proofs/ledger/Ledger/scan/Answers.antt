@@ -1,4 +1,4 @@
-use mathlib.Core.Path.{_≡_, sym, ap, _∙_}
+use mathlib.Core.Path.{ap, _∙_}
 use mathlib.Core.List.{map}
 use native.Mathlib.Omega.{arith}
 use denote.Ref.{now}
@@ -23,12 +23,13 @@ loop-i-again c =
     let ps = vec-items (l .present) in
     let es = waiting (l .line) (now (l .journal)) in
     elim (c .match-entry .came) [
-    | in-Some w ↦ entry-more (c .args .floor) (c .args .moment) (c .args .query) ps es (c .loop-i .i) (l .line .len) (w .in-Some .entry) (c .loop-i .scan) _ (w .in-Some .ensures tt) (length-waiting-le (l .line) (now (l .journal))) (omega (arith, c .pre, l .present .ok .0)) (c .loop-i .inv) (w .scan-is ∙ w .scan-entry-scan .ensures)
-    | in-rest w ↦ entry-none (c .args .floor) (c .args .moment) (c .args .query) ps es (c .loop-i .i) (c .loop-i .scan) _ (w .in-rest .ensures tt) (c .loop-i .inv) (w .scan-is) ]
+      | in-Some w ↦ entry-more (c .args .floor) (c .args .moment) (c .args .query) ps es (c .loop-i .i) (l .line .len) (w .in-Some .entry) (c .loop-i .scan) _ (w .in-Some .ensures tt) (length-waiting-le (l .line) (now (l .journal))) (omega (arith, c .pre, l .present .ok .0)) (c .loop-i .inv) (w .scan-is ∙ w .scan-entry-scan .ensures)
+      | in-rest w ↦ entry-none (c .args .floor) (c .args .moment) (c .args .query) ps es (c .loop-i .i) (c .loop-i .scan) _ (w .in-rest .ensures tt) (c .loop-i .inv) (w .scan-is)
+    ]
 
 pub returns : need.returns
 returns c =
     let l = c .args .self .now in
     let es = waiting (l .line) (now (l .journal)) in
     c .loop-i .inv ∙ ap (λ xs. found (c .args .floor) (c .args .moment) (c .args .query) (versions (vec-items (l .present)) xs))
-        (take-all (c .loop-i .i) es (omega (arith, length-waiting-le (l .line) (now (l .journal)), c .loop-i-test .left, c .len-i-end .ensures)))
+    (take-all (c .loop-i .i) es (omega (arith, length-waiting-le (l .line) (now (l .journal)), c .loop-i-test .left, c .len-i-end .ensures)))

@@ -1,5 +1,5 @@
 use mathlib.Core.Bool.{true}
-use mathlib.Core.Path.{_≡_, sym, ap, _∙_}
+use mathlib.Core.Path.{_≡_}
 use native.Mathlib.Omega.{arith}
 use borrow.Author.Needs.{needs}
 use denote.Ref.{now}
@@ -20,13 +20,22 @@ ghost-result c =
     let pins = vec-items (c .in-Ok .pins .moments) in
     let to = made-empty l pins size first (c .in-Ok .ensures tt) (room .0) (line .2) (line .0) in
     let w = made-lasting (storeFrom first first pins l) size first to in
-    let range : inRange size first ≡ true = search needs in
-    (omega (arith, line .0, size-range size first range),
-        (omega (arith, line .0, room .1 .1),
-        (omega (arith, line .0),
-        (omega (arith, room .1 .0),
-        (first-range size first range,
-        (w .past, (w .kept, (w .single, (w .ascends, (w .commits, (w .dates, (w .told, (w .apart, tt)))))))))))))
+    let range : inRange size first ≡ true = search needs in (
+      omega (arith, line .0, size-range size first range),
+      (
+        omega (arith, line .0, room .1 .1),
+        (
+          omega (arith, line .0),
+          (
+            omega (arith, room .1 .0),
+            (
+              first-range size first range,
+              (w .past, (w .kept, (w .single, (w .ascends, (w .commits, (w .dates, (w .told, (w .apart, tt)))))))),
+            ),
+          ),
+        ),
+      ),
+    )
 
 pub returns : need.returns
 returns c =
