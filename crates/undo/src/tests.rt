@@ -4,6 +4,7 @@ use crate::UndoStore;
 use crate::calls::UndoDatabase;
 use database::Answer;
 use database::Database;
+use database::agree::agree;
 use std::test::*;
 use terms::Change;
 use terms::Fault;
@@ -112,6 +113,21 @@ fn discards_what_no_held_moment_needs(rt: LibcRuntime) -> Result<(), Fail> {
         told(store.ask(14, Query::Tally { table: 0, state: 0 })),
         (2, 5, 14, 114),
     )
+}
+
+#[test]
+fn agrees_with_a_store_of_another_size(rt: LibcRuntime) -> Result<(), Fail> {
+    let mut journal = [BLANK; 1];
+    let mut longer = [BLANK; 9];
+    let Ok(mut one) = UndoStore::new(rt.alloc(), &mut journal, 10) else {
+        return Err(Fail::new("refused"));
+    };
+    let Ok(mut other) = UndoStore::new(rt.alloc(), &mut longer, 10) else {
+        return Err(Fail::new("refused"));
+    };
+    check_eq(number(one.write(&[set(DOOR, 0, 7)])), 11)?;
+    check_eq(number(other.write(&[set(DOOR, 0, 7)])), 11)?;
+    check(matches!(agree(&one, &other, 11, Query::Get { id: DOOR }), Ok(true)))
 }
 
 #[test]
