@@ -149,3 +149,32 @@ fn is_made_in_range(rt: LibcRuntime) -> Result<(), Fail> {
     };
     check_eq(number(store.write(&[set(DOOR, 0, 0)])), 45)
 }
+
+#[derive(Drop)]
+struct Hall<D> {
+    database: D,
+}
+
+impl<D: Database> Hall<D> {
+    fn new(database: D) -> Hall<D> {
+        Hall { database }
+    }
+
+    fn pin(&mut self) -> u64 {
+        number(self.database.pin())
+    }
+}
+
+fn run<D: Database + Drop>(database: D) -> u64 {
+    let mut hall = Hall::new(database);
+    hall.pin()
+}
+
+#[test]
+fn goes_into_a_hall(rt: LibcRuntime) -> Result<(), Fail> {
+    let mut journal = [BLANK; 1];
+    let Ok(store) = UndoStore::new(rt.alloc(), &mut journal, 10) else {
+        return Err(Fail::new("refused"));
+    };
+    check_eq(run(store), 10)
+}

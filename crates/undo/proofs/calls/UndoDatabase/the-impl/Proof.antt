@@ -1,4 +1,5 @@
--- The block `UndoDatabase` meets its trait. It is the proof that rattle makes of such a block where its trait has no law, with the law beside it.
+-- The block `UndoDatabase` meets its trait. Rattle makes no such proof where the trait has a law and the block a lifetime parameter:
+-- this is the one that it makes where the trait has no law (`rt dev undo --generated DIR` prints it, in a copy whose trait has none), with the law first.
 use Rattle.database.specs.contracts.Database.ask
 use Rattle.database.specs.contracts.Database.free
 use Rattle.database.specs.contracts.Database.latest
