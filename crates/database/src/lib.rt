@@ -2,9 +2,11 @@
 ghost use mathlib.Core.Path.{_≡_};
 ghost use Rattle.database.specs.Databases.{Db, Sound, PinsLatest, Unpins, UnpinsAll, Asks, Writes};
 
+pub mod agree;
 pub mod pins;
 pub mod queries;
 pub mod retain;
+pub mod scan;
 pub mod writes;
 
 use terms::Change;

@@ -1,0 +1,13 @@
+// The undo store: a database that keeps its present records, and a journal of what they held before.
+mod calls;
+mod entry;
+mod ledger;
+mod scanning;
+mod store;
+
+pub use entry::Entry;
+pub use entry::Held;
+pub use store::UndoStore;
+
+#[cfg(test)]
+mod tests;
