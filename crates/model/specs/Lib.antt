@@ -1,5 +1,0 @@
-pub mod Books
-pub mod Rules
-pub mod Calls
-pub mod Traces
-pub mod Law
