@@ -1,7 +1,6 @@
 // What sheets are worth over a store, and which have no value.
 use crate::hall::fault_of;
 use crate::hall::set;
-use crate::hall::spend_day;
 use crate::hall::tally;
 use crate::odd::Patient;
 use crate::odd::PatientRecipe;
@@ -17,8 +16,6 @@ use recipe::evaluate::evaluate;
 use std::test::*;
 use terms::Fault;
 use terms::Reading;
-use versions::VersionDatabase;
-use versions::VersionStore;
 
 // A reading, or the number of a refusal.
 fn worth_of(result: Result<Reading, Fault>) -> (Reading, u8) {
@@ -29,7 +26,7 @@ fn worth_of(result: Result<Reading, Fault>) -> (Reading, u8) {
 }
 
 // For a store after its day.
-fn claims<D: Database>(store: &D) -> Result<(), Fail> {
+pub fn claims<D: Database>(store: &D) -> Result<(), Fail> {
     let cases = [
         (10, 900, (None, 0)),
         (11, 900, (None, 0)),
@@ -51,7 +48,7 @@ fn claims<D: Database>(store: &D) -> Result<(), Fail> {
 }
 
 // For a store after its day.
-fn boards<D: Database>(store: &D) -> Result<(), Fail> {
+pub fn boards<D: Database>(store: &D) -> Result<(), Fail> {
     // moment, sheet, argument, depth
     let cases = [
         ((10, 0, 0), 0, (None, 0)),
@@ -79,7 +76,7 @@ fn boards<D: Database>(store: &D) -> Result<(), Fail> {
 }
 
 // For a store without records at 10: tickets 7 and 8 name door 6, ticket 9 a door that is not there, and door 6 ticket 7.
-fn claims_of_others<D: Database>(store: &mut D) -> Result<(), Fail> {
+pub fn claims_of_others<D: Database>(store: &mut D) -> Result<(), Fail> {
     let changes = [
         set(0, 6, 2, 7),
         set(1, 7, 1, 6),
@@ -97,7 +94,7 @@ fn claims_of_others<D: Database>(store: &mut D) -> Result<(), Fail> {
 }
 
 // For a store after its day.
-fn odd_recipes<D: Database>(store: &D) -> Result<(), Fail> {
+pub fn odd_recipes<D: Database>(store: &D) -> Result<(), Fail> {
     let stubborn = [
         (
             Ask::Call {
@@ -141,23 +138,4 @@ fn odd_recipes<D: Database>(store: &D) -> Result<(), Fail> {
         )?;
     }
     Ok(())
-}
-
-#[test]
-fn sheets_over_versions(rt: LibcRuntime) -> Result<(), Fail> {
-    let Ok(mut store) = VersionStore::new(rt.alloc(), 6, 10) else {
-        return Err(Fail::new("a store"));
-    };
-    spend_day(&mut store)?;
-    claims(&store)?;
-    boards(&store)?;
-    odd_recipes(&store)
-}
-
-#[test]
-fn other_claims_over_versions(rt: LibcRuntime) -> Result<(), Fail> {
-    let Ok(mut store) = VersionStore::new(rt.alloc(), 6, 10) else {
-        return Err(Fail::new("a store"));
-    };
-    claims_of_others(&mut store)
 }

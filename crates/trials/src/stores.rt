@@ -10,11 +10,9 @@ use database::Database;
 use std::test::*;
 use terms::Change;
 use terms::HIGHEST;
-use versions::VersionDatabase;
-use versions::VersionStore;
 
 // For a store without records at 10, in which six changes fit.
-fn refuses<D: Database>(store: &mut D) -> Result<(), Fail> {
+pub fn refuses<D: Database>(store: &mut D) -> Result<(), Fail> {
     let one = set(0, 7, 0, 0);
     let two = set(0, 8, 0, 0);
     let nowhere = set(8, 9, 0, 0);
@@ -49,7 +47,7 @@ fn refuses<D: Database>(store: &mut D) -> Result<(), Fail> {
 }
 
 // For a store at the highest moment, in which one change fits.
-fn refuses_at_the_end<D: Database>(store: &mut D) -> Result<(), Fail> {
+pub fn refuses_at_the_end<D: Database>(store: &mut D) -> Result<(), Fail> {
     let one = set(0, 7, 0, 0);
     let cases: [(&[Change], (u8, usize)); 4] = [
         (&[], (41, 0)),
@@ -68,7 +66,7 @@ fn refuses_at_the_end<D: Database>(store: &mut D) -> Result<(), Fail> {
 }
 
 // For a store without records at 10, in which a change fits.
-fn refuses_pins<D: Database>(store: &mut D) -> Result<(), Fail> {
+pub fn refuses_pins<D: Database>(store: &mut D) -> Result<(), Fail> {
     for _ in 0..32 {
         check_eq(fault_of(store.write(&[delete(0, 7)])), (0, 0))?;
         check_eq(fault_of(store.pin()), (0, 0))?;
@@ -85,7 +83,7 @@ fn refuses_pins<D: Database>(store: &mut D) -> Result<(), Fail> {
 }
 
 // For a store without records at 10, in which six changes fit.
-fn tells_intervals<D: Database>(store: &mut D) -> Result<(), Fail> {
+pub fn tells_intervals<D: Database>(store: &mut D) -> Result<(), Fail> {
     spend_day(store)?;
     let door = get(0, 5);
     let ticket = get(1, 900);
@@ -115,8 +113,8 @@ fn tells_intervals<D: Database>(store: &mut D) -> Result<(), Fail> {
     Ok(())
 }
 
-// Two tickets more: the count and the smallest key of a tally, and an equal value.
-fn tallies<D: Database>(store: &mut D) -> Result<(), Fail> {
+// For a store without records at 10, in which six changes fit: the count and smallest key of a tally, and an equal value set again.
+pub fn tallies<D: Database>(store: &mut D) -> Result<(), Fail> {
     check_eq(
         fault_of(store.write(&[set(1, 9, 1, 5), set(1, 3, 1, 6), set(2, 1, 1, 0)])),
         (0, 0),
@@ -133,69 +131,5 @@ fn tallies<D: Database>(store: &mut D) -> Result<(), Fail> {
     check_eq(
         read_of(store.ask(12, get(1, 3))),
         (Some((1, 6)), 12, ("through", 12)),
-    )?;
-    check_eq(
-        read_of(store.ask(12, get(1, 9))),
-        (Some((1, 5)), 11, ("through", 12)),
     )
-}
-
-#[test]
-fn version_store_is_made_in_range(rt: LibcRuntime) -> Result<(), Fail> {
-    let cases = [
-        (0, 10, (61, 0)),
-        (4097, 10, (61, 0)),
-        (usize::MAX, 10, (61, 0)),
-        (6, HIGHEST + 1, (61, 0)),
-        (6, u64::MAX, (61, 0)),
-        (1, HIGHEST, (0, 0)),
-        (4096, 0, (0, 0)),
-    ];
-    for (places, first, wanted) in cases {
-        check_eq(
-            fault_of(VersionStore::new(rt.alloc(), places, first)),
-            wanted,
-        )?;
-    }
-    Ok(())
-}
-
-#[test]
-fn version_store_refuses(rt: LibcRuntime) -> Result<(), Fail> {
-    let Ok(mut store) = VersionStore::new(rt.alloc(), 6, 10) else {
-        return Err(Fail::new("a store"));
-    };
-    refuses(&mut store)
-}
-
-#[test]
-fn version_store_refuses_at_the_end(rt: LibcRuntime) -> Result<(), Fail> {
-    let Ok(mut store) = VersionStore::new(rt.alloc(), 1, HIGHEST) else {
-        return Err(Fail::new("a store"));
-    };
-    refuses_at_the_end(&mut store)
-}
-
-#[test]
-fn version_store_refuses_pins(rt: LibcRuntime) -> Result<(), Fail> {
-    let Ok(mut store) = VersionStore::new(rt.alloc(), 1, 10) else {
-        return Err(Fail::new("a store"));
-    };
-    refuses_pins(&mut store)
-}
-
-#[test]
-fn version_store_tells_intervals(rt: LibcRuntime) -> Result<(), Fail> {
-    let Ok(mut store) = VersionStore::new(rt.alloc(), 6, 10) else {
-        return Err(Fail::new("a store"));
-    };
-    tells_intervals(&mut store)
-}
-
-#[test]
-fn version_store_tallies(rt: LibcRuntime) -> Result<(), Fail> {
-    let Ok(mut store) = VersionStore::new(rt.alloc(), 6, 10) else {
-        return Err(Fail::new("a store"));
-    };
-    tallies(&mut store)
 }
