@@ -1,0 +1,91 @@
+// A day of the locker hall, told line by line: what a store went through, what it reads, and what a cache keeps of it.
+mod caching;
+mod hall;
+mod refusals;
+mod shown;
+mod telling;
+
+use cache::Entry;
+use caching::tell_cache;
+use caching::tell_full;
+use hall::tell_day;
+use recency::Recency;
+use recency::RecencyCache;
+use refusals::tell_making;
+use refusals::tell_refusals;
+use split::Split;
+use split::SplitCache;
+use std::io;
+use terms::Fault;
+use terms::HIGHEST;
+use versions::VersionDatabase;
+use versions::VersionStore;
+
+// What ends the telling: nothing can be printed, or something could not be made.
+#[derive(Debug, Drop)]
+enum Trouble {
+    Unprinted(io::Error),
+    Unmade,
+}
+
+impl From<io::Error> for Trouble as FromIo {
+    fn from(error: io::Error) -> Trouble {
+        Trouble::Unprinted(error)
+    }
+}
+
+impl From<Fault> for Trouble as FromFault {
+    fn from(_: Fault) -> Trouble {
+        Trouble::Unmade
+    }
+}
+
+fn tell_versions(rt: &LibcRuntime) -> Result<(), Trouble> {
+    let heap = rt.alloc();
+    let mut store = VersionStore::new(heap, 6, 10)?;
+    let mut last = VersionStore::new(heap, 1, HIGHEST)?;
+    println!(rt, "The version store, 6 places, empty at 10")?;
+    tell_day(rt, &mut store)?;
+    tell_refusals(rt, &mut store, &mut last)?;
+    tell_making(rt, "0 places", VersionStore::new(heap, 0, 10))?;
+    tell_making(rt, "4097 places", VersionStore::new(heap, 4097, 10))?;
+    tell_making(
+        rt,
+        "a first moment past the highest",
+        VersionStore::new(heap, 6, HIGHEST + 1),
+    )?;
+    Ok(())
+}
+
+fn tell_node(rt: &LibcRuntime) -> Result<(), Trouble> {
+    let mut four = [Entry::blank(); 4];
+    let mut two = [Entry::blank(); 2];
+    println!(rt, "")?;
+    println!(rt, "The recency node, 4 places")?;
+    tell_cache(rt, &mut Recency::new(&mut four)?)?;
+    println!(rt, "The recency node, 2 places")?;
+    tell_full(rt, &mut Recency::new(&mut two)?)?;
+    Ok(())
+}
+
+fn tell_split(rt: &LibcRuntime) -> Result<(), Trouble> {
+    let mut one = [Entry::blank(); 2];
+    let mut two = [Entry::blank(); 1];
+    let mut three = [Entry::blank(); 3];
+    let odd = Split::new(Recency::new(&mut two)?, Recency::new(&mut three)?);
+    let mut all = Split::new(Recency::new(&mut one)?, odd);
+    println!(rt, "")?;
+    println!(
+        rt,
+        "A split of splits, 2 places for even keys and 3 for odd ones"
+    )?;
+    tell_cache(rt, &mut all)?;
+    tell_full(rt, &mut all)?;
+    Ok(())
+}
+
+fn main(rt: LibcRuntime) -> Result<(), Trouble> {
+    tell_versions(&rt)?;
+    tell_node(&rt)?;
+    tell_split(&rt)
+}
