@@ -18,6 +18,9 @@ use split::SplitCache;
 use std::io;
 use terms::Fault;
 use terms::HIGHEST;
+use terms::RecordId;
+use undo::UndoDatabase;
+use undo::UndoStore;
 use versions::VersionDatabase;
 use versions::VersionStore;
 
@@ -40,6 +43,15 @@ impl From<Fault> for Trouble as FromFault {
     }
 }
 
+// What stands in a journal before it is used.
+fn no_entry() -> undo::Entry {
+    undo::Entry {
+        commit: 0,
+        id: RecordId { table: 0, key: 0 },
+        former: None,
+    }
+}
+
 fn tell_versions(rt: &LibcRuntime) -> Result<(), Trouble> {
     let heap = rt.alloc();
     let mut store = VersionStore::new(heap, 6, 10)?;
@@ -53,6 +65,29 @@ fn tell_versions(rt: &LibcRuntime) -> Result<(), Trouble> {
         rt,
         "a first moment past the highest",
         VersionStore::new(heap, 6, HIGHEST + 1),
+    )?;
+    Ok(())
+}
+
+fn tell_undo(rt: &LibcRuntime) -> Result<(), Trouble> {
+    let heap = rt.alloc();
+    let mut journal = [no_entry(); 6];
+    let mut short = [no_entry(); 1];
+    let mut again = [no_entry(); 6];
+    let mut store = UndoStore::new(heap, &mut journal, 10)?;
+    let mut last = UndoStore::new(heap, &mut short, HIGHEST)?;
+    println!(rt, "")?;
+    println!(
+        rt,
+        "The undo store, 6 rows and a journal of 6 entries, empty at 10"
+    )?;
+    tell_day(rt, &mut store)?;
+    tell_refusals(rt, &mut store, &mut last)?;
+    tell_making(rt, "0 places", UndoStore::new(heap, &mut [], 10))?;
+    tell_making(
+        rt,
+        "a first moment past the highest",
+        UndoStore::new(heap, &mut again, HIGHEST + 1),
     )?;
     Ok(())
 }
@@ -86,6 +121,7 @@ fn tell_split(rt: &LibcRuntime) -> Result<(), Trouble> {
 
 fn main(rt: LibcRuntime) -> Result<(), Trouble> {
     tell_versions(&rt)?;
+    tell_undo(&rt)?;
     tell_node(&rt)?;
     tell_split(&rt)
 }

@@ -4,6 +4,8 @@ mod hall;
 #[cfg(test)]
 mod odd;
 #[cfg(test)]
+mod over_undo;
+#[cfg(test)]
 mod over_versions;
 #[cfg(test)]
 mod sheets;

@@ -5,9 +5,7 @@ mod ledger;
 mod scanning;
 mod store;
 
+pub use calls::UndoDatabase;
 pub use entry::Entry;
 pub use entry::Held;
 pub use store::UndoStore;
-
-#[cfg(test)]
-mod tests;
