@@ -43,16 +43,10 @@ use Rattle.model.specs.declared.call.Reply.the-variants.{Read, Open}
 use Rattle.model.specs.Rules.{hitPart, answerPart}
 use Rattle.model.specs.Calls.{Given, Question, ofQuery, ofSheet, withTx, withFrames, hasFrames, keyOf, dropped, went, handed}
 use Rattle.model.proofs.Parts.{held-past, hit-claim, hit-contains, answer-claim}
-use Rattle.model.proofs.Towers.{Stack, TowerTo, Comes, here, nth, nth-cut, whole-claim}
+use Rattle.model.proofs.Towers.{some-frame, none-frame, Stack, TowerTo, Comes, here, nth, nth-cut, whole-claim}
 use Rattle.model.proofs.Cores.{TxGood, Core, core-entries, core-append, found, only-one}
 use Rattle.model.proofs.Steps.{set-held, core-given, core-frames, find-replaced, replaced-again}
 use Rattle.model.proofs.Choosing.{core-pick, whole-contains}
-
-pub some-frame : (one other : Frame) → Some one ≡ Some other → one ≡ other
-some-frame one other e = cc
-
-pub none-frame : (g : Frame) → None ≡ Some g → ⊥
-none-frame g e = let z : _≡_ {A = ℕ} 0 1 = cc in omega arith
 
 no-frames : (fs : List Frame) → ltb 0 (length fs) ≡ false → fs ≡ []
 no-frames [] e = refl

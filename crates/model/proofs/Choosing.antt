@@ -70,7 +70,7 @@ holders-none m (t ∷ txs) none =
     let b : bit m t ≡ 0 = cond-false (among m (t .holds)) 1 0 (none t (inl refl)) in
     omega arith
 
-pin-moment : (pin : Pin) (pins : List Pin) → Among pin pins → among (pin .moment) (moments pins) ≡ true
+pub pin-moment : (pin : Pin) (pins : List Pin) → Among pin pins → among (pin .moment) (moments pins) ≡ true
 pin-moment pin [] a = absurd a
 pin-moment pin (x ∷ pins) a = ⊎-elim (λ e. or-left _ _ (eq-eqb (pin .moment) (x .moment) (ap (λ (y : Pin). y .moment) e))) (λ b. or-right _ _ (pin-moment pin pins b)) a
 

@@ -82,10 +82,10 @@ core-entries p o h hall entries core good = record {
 }
 
 -- transactions
-some-tx : (one other : Transaction) → Some one ≡ Some other → one ≡ other
+pub some-tx : (one other : Transaction) → Some one ≡ Some other → one ≡ other
 some-tx one other e = cc
 
-none-tx : (tx : Transaction) → None ≡ Some tx → ⊥
+pub none-tx : (tx : Transaction) → None ≡ Some tx → ⊥
 none-tx tx e = let z : _≡_ {A = ℕ} 0 1 = cc in omega arith
 
 pub found : (n : ℕ) (txs : List Transaction) (tx : Transaction) → find n txs ≡ Some tx → Among tx txs × (tx .number ≡ n)
@@ -113,7 +113,7 @@ numbers-replaced tx′ (x ∷ txs) =
     (λ (is : eqb (tx′ .number) (x .number) ≡ false). ap numbers (cond-false (eqb (tx′ .number) (x .number)) _ _ is) ∙ ap (λ ns. x .number ∷ ns) (numbers-replaced tx′ txs))
     (cases-bool (eqb (tx′ .number) (x .number)))
 
-among-number : (t : Transaction) (txs : List Transaction) → Among t txs → among (t .number) (numbers txs) ≡ true
+pub among-number : (t : Transaction) (txs : List Transaction) → Among t txs → among (t .number) (numbers txs) ≡ true
 among-number t [] a = absurd a
 among-number t (x ∷ txs) a = ⊎-elim (λ is. or-left _ _ (eq-eqb (t .number) (x .number) (ap (λ (y : Transaction). y .number) is))) (λ b. or-right _ _ (among-number t txs b)) a
 

@@ -27,7 +27,7 @@ use Rattle.model.specs.Calls as calls
 use Rattle.model.specs.Traces.{Origin, Event, isWrite, latestOf, recordsAt, rowsOf, Lives}
 use Rattle.model.specs.Traces as traces
 use Rattle.model.specs.Law.{Right, GivenIn, Law, Law-stands, numbers, holders, howMany, isBegin, isCommit, isAbort, isOpenIn, starts, finishes}
-use Rattle.model.proofs.Cores.{Core, core-append, gives-nothing, found, numbers-replaced}
+use Rattle.model.proofs.Cores.{Core, among-number, core-append, gives-nothing, found, numbers-replaced}
 use Rattle.model.proofs.Asked.{hit-core, miss-core, queried-core, dropped-core, found-at, same-entries}
 use Rattle.model.proofs.Stepped.{step-query-core, step-hit-core, step-miss-core, step-done-core, step-last-core}
 use Rattle.model.proofs.Turns.{begin-core, end-core, write-core, deliver-core, sweep-core, numbers-removed}
@@ -115,10 +115,6 @@ counts-same h e txs txs′ neutral same c = record {
 
 refused-neutral : (call : Call) (fault : _) → Neutral call (Refused fault)
 refused-neutral call fault = (refl, refl, refl, λ n. refl, λ n. refl)
-
-among-number : (t : Transaction) (txs : List Transaction) → Among t txs → among (t .number) (numbers txs) ≡ true
-among-number t [] a = absurd a
-among-number t (x ∷ txs) a = ⊎-elim (λ is. or-left _ _ (eq-eqb (t .number) (x .number) (ap (λ (y : Transaction). y .number) is))) (λ b. or-right _ _ (among-number t txs b)) a
 
 shut : (a b : Bool) → (a && not b) ≡ cond b false a
 shut true true = refl

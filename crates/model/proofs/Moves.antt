@@ -24,6 +24,7 @@ use Rattle.database.specs.Writes.{put, changed}
 use Rattle.database.specs.Databases.{Db, held, Sound, Written}
 use Rattle.database.proofs.Rows.{same-id}
 use Rattle.cache.specs.Lists.{Among}
+use Rattle.cache.proofs.Members.{among-left, among-right}
 use Rattle.cache.specs.TagSets.{touched}
 use Rattle.recipe.specs.Recipes.{AgreeAll}
 use Rattle.model.specs.Books.{Part, Row}
@@ -99,14 +100,6 @@ records-new o h e w =
 
 pub rows-new : (o : Origin) (h : List Event) (e : Event) → isWrite (e .reply) ≡ true → rowsOf o (e ∷ h) ≡ rowsOf o h ++ rowsOfWrite (latestOf o h + 1) (e .changes)
 rows-new o h e w = cond-true (isWrite (e .reply)) _ _ w
-
-pub among-left : {X : Type 0} (x : X) (xs ys : List X) → Among x xs → Among x (xs ++ ys)
-among-left x [] ys a = absurd a
-among-left x (y ∷ xs) ys a = ⊎-elim inl (λ b. inr (among-left x xs ys b)) a
-
-pub among-right : {X : Type 0} (x : X) (xs ys : List X) → Among x ys → Among x (xs ++ ys)
-among-right x [] ys a = a
-among-right x (y ∷ xs) ys a = inr (among-right x xs ys a)
 
 -- a change that touches no tag leaves what the tags touch
 keys-sym : (a b : Option ℕ) → keysTouch a b ≡ keysTouch b a

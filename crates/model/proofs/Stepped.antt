@@ -49,11 +49,11 @@ use Rattle.model.specs.Rules.{hitPart, answerPart}
 use Rattle.model.specs.Calls.{Given, Question, ofQuery, ofSheet, withTx, withFrames, hasFrames, keyOf, dropped, went, handed, lastAnswer, entering}
 use Rattle.model.proofs.Claims.{claim-map}
 use Rattle.model.proofs.Parts.{held-past, hit-claim, hit-contains, answer-claim, enter-claim, Forward}
-use Rattle.model.proofs.Towers.{Stack, TowerTo, Comes, queried, called, Waits, done-gives, nth, nth-cut, whole-claim, stack-given, stack-opened, stack-done}
+use Rattle.model.proofs.Towers.{some-frame, none-frame, Stack, TowerTo, Comes, queried, called, Waits, done-gives, nth, nth-cut, whole-claim, stack-given, stack-opened, stack-done}
 use Rattle.model.proofs.Cores.{EntryGood, TxGood, Core, core-entries, core-append, found, only-one}
 use Rattle.model.proofs.Steps.{set-held, core-given, core-frames, find-replaced, replaced-again}
 use Rattle.model.proofs.Choosing.{core-pick, whole-contains}
-use Rattle.model.proofs.Asked.{some-frame, none-frame, no-given, one-given, among-of, found-at, same-entries, key-gives, whole-inside}
+use Rattle.model.proofs.Asked.{no-given, one-given, among-of, found-at, same-entries, key-gives, whole-inside}
 
 -- the frames, once the top one went on, have the parts that they had
 part-same : (P : Part → Type 0) (f f′ : Frame) (fs : List Frame) → f′ .part ≡ f .part → ((i : ℕ) (g : Frame) → nth i (f ∷ fs) ≡ Some g → P (g .part)) → (i : ℕ) (g : Frame) → nth i (f′ ∷ fs) ≡ Some g → P (g .part)

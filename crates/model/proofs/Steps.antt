@@ -31,7 +31,7 @@ use Rattle.model.specs.Law.{Right, GivenIn, numbers, holders}
 use Rattle.model.proofs.Claims.{Claim, claim-here, meet-contains}
 use Rattle.model.proofs.Moves.{claim-held}
 use Rattle.model.proofs.Towers.{Stack, nth, nth-cut}
-use Rattle.model.proofs.Cores.{TxGood, Core, GivesRight, core-append, core-change, core-tx, found, in-replaced, numbers-replaced, only-one, holders-replaced, bit}
+use Rattle.model.proofs.Cores.{none-tx, TxGood, Core, GivesRight, core-append, core-change, core-tx, found, in-replaced, numbers-replaced, only-one, holders-replaced, bit}
 
 -- a moment of a pin set is held
 pub set-held : (p : Rules) (o : Origin) (h : List Event) (hall : Hall) (tx : Transaction) (m : ℕ) → Core p o h hall → TxGood p o h (hall .db) (hall .books .pins) (hall .books .next) tx → among m (tx .set) ≡ true → held (hall .db) m ≡ true
@@ -64,12 +64,6 @@ narrow-good p o h db pins next tx part gs m₀ good in-set in-part stack inside 
 
 some-given : (one other : Given) → Some one ≡ Some other → one ≡ other
 some-given one other e = cc
-
-some-tx : (one other : Transaction) → Some one ≡ Some other → one ≡ other
-some-tx one other e = cc
-
-none-tx : (tx : Transaction) → None ≡ Some tx → ⊥
-none-tx tx e = let z : _≡_ {A = ℕ} 0 1 = cc in omega arith
 
 pub find-replaced : (tx′ : Transaction) (txs : List Transaction) (tx : Transaction) → find (tx′ .number) txs ≡ Some tx → find (tx′ .number) (replaced tx′ txs) ≡ Some tx′
 find-replaced tx′ [] tx e = absurd (none-tx tx e)

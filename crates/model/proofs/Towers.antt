@@ -92,21 +92,21 @@ below-same p z zero f f′ (g ∷ gs) s a b = tt
 below-same p z (suc i) f f′ (g ∷ gs) s a b =
     (subst (λ y. Waits p z g (f′ .point .sheet) y) (sym a) (subst (λ x. Waits p z g x (f .point .argument)) (sym s) (b .0)), b .1)
 
-none-some : (g : Frame) → None ≡ Some g → ⊥
-none-some g e = let z : _≡_ {A = ℕ} 0 1 = cc in omega arith
+pub none-frame : (g : Frame) → None ≡ Some g → ⊥
+none-frame g e = let z : _≡_ {A = ℕ} 0 1 = cc in omega arith
 
-some-one : (one other : Frame) → Some one ≡ Some other → one ≡ other
-some-one one other e = cc
+pub some-frame : (one other : Frame) → Some one ≡ Some other → one ≡ other
+some-frame one other e = cc
 
 pub nth-cut : (part : Part) (i : ℕ) (fs : List Frame) (g : Frame) → nth i (map (cut part) fs) ≡ Some g → (was : Frame) × (nth i fs ≡ Some was) × (g ≡ cut part was)
-nth-cut part i [] g e = absurd (none-some g e)
-nth-cut part zero (f ∷ fs) g e = (f, refl, some-one g (cut part f) (sym e))
+nth-cut part i [] g e = absurd (none-frame g e)
+nth-cut part zero (f ∷ fs) g e = (f, refl, some-frame g (cut part f) (sym e))
 nth-cut part (suc i) (f ∷ fs) g e = nth-cut part i fs g e
 
 -- the claims stay where the top frame has the part that it had
 old-claim : (p : Rules) (o : Origin) (h : List Event) (db : Db) (f f′ : Frame) (fs : List Frame) → f′ .part ≡ f .part → Stack p o h db (f ∷ fs) → (i : ℕ) (was : Frame) → nth i (f′ ∷ fs) ≡ Some was → Claim o h db (was .part) (λ z. TowerTo p z i (f ∷ fs))
 old-claim p o h db f f′ fs same stack zero was e =
-    subst (λ part. Claim o h db part (λ z. TowerTo p z 0 (f ∷ fs))) (sym same ∙ ap (λ (x : Frame). x .part) (some-one f′ was e)) (stack 0 f refl)
+    subst (λ part. Claim o h db part (λ z. TowerTo p z 0 (f ∷ fs))) (sym same ∙ ap (λ (x : Frame). x .part) (some-frame f′ was e)) (stack 0 f refl)
 old-claim p o h db f f′ fs same stack (suc i) was e = stack (suc i) was e
 
 -- what holds of all records is claimed of all moments
@@ -132,14 +132,14 @@ pub stack-opened : (p : Rules) (o : Origin) (h : List Event) (db : Db) (f f′ :
     → ((z : Records) → Comes p z (f .answers) (f .point) → Waits p z f′ sheet argument)
     → Stack p o h db (f ∷ fs) → Stack p o h db (freshFrame sheet argument ∷ f′ ∷ fs)
 stack-opened p o h db f f′ fs sheet argument same s a on stack zero g e =
-    subst (λ (x : Frame). Claim o h db (x .part) (λ z. TowerTo p z 0 (freshFrame sheet argument ∷ f′ ∷ fs))) (some-one (freshFrame sheet argument) g e)
+    subst (λ (x : Frame). Claim o h db (x .part) (λ z. TowerTo p z 0 (freshFrame sheet argument ∷ f′ ∷ fs))) (some-frame (freshFrame sheet argument) g e)
     (whole-claim o h db (λ z. TowerTo p z 0 (freshFrame sheet argument ∷ f′ ∷ fs)) (λ z. (here sheet argument, tt)))
 stack-opened p o h db f f′ fs sheet argument same s a on stack (suc i) g e =
     claim-map o h db (g .part) (λ z. TowerTo p z i (f ∷ fs)) (λ z. TowerTo p z (suc i) (freshFrame sheet argument ∷ f′ ∷ fs))
     (λ z t. (here sheet argument, (on z (t .0), below-same p z i f f′ fs s a (t .1)))) (old-claim p o h db f f′ fs same stack i g e)
 
 done-claim : (p : Rules) (o : Origin) (h : List Event) (db : Db) (f g : Frame) (gs : List Frame) (r : Reading) → Stack p o h db (f ∷ g ∷ gs) → (i : ℕ) (k : Frame) → nth i (handed r g ∷ gs) ≡ Some k → Claim o h db (k .part) (λ z. TowerTo p z (suc i) (f ∷ g ∷ gs))
-done-claim p o h db f g gs r stack zero k e = subst (λ (x : Frame). Claim o h db (x .part) (λ z. TowerTo p z 1 (f ∷ g ∷ gs))) (some-one (handed r g) k e) (stack 1 g refl)
+done-claim p o h db f g gs r stack zero k e = subst (λ (x : Frame). Claim o h db (x .part) (λ z. TowerTo p z 1 (f ∷ g ∷ gs))) (some-frame (handed r g) k e) (stack 1 g refl)
 done-claim p o h db f g gs r stack (suc i) k e = stack (suc (suc i)) k e
 
 -- the top frame is done, and the one below is handed its reading

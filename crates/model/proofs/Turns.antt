@@ -47,11 +47,11 @@ use Rattle.model.specs.Calls.{Given, gained, freshMoments, begun, afterBegin, 
 use Rattle.model.specs.Calls as calls
 use Rattle.model.proofs.Moves.{Faithful, claim-held, claim-write, records-before, records-new, rows-new}
 use Rattle.model.proofs.Parts.{held-past, entryPart, closedAll, Comes-to, comes-to, deliver-claim}
-use Rattle.model.proofs.Towers.{Stack, nth}
+use Rattle.model.proofs.Towers.{none-frame, Stack, nth}
 use Rattle.model.proofs.Cores.{EntryGood, TxGood, Core, GivesRight, core-entries, core-append, core-change, gives-nothing, found, holders-cons, holders-removed, bit}
 use Rattle.model.proofs.Steps.{set-held}
-use Rattle.model.proofs.Choosing.{holders-some}
-use Rattle.model.proofs.Asked.{none-frame, no-given}
+use Rattle.model.proofs.Choosing.{pin-moment, holders-some}
+use Rattle.model.proofs.Asked.{no-given}
 
 -- begin
 gained-moment : (now limit : ℕ) (pin : Pin) → gained now limit pin .moment ≡ pin .moment
@@ -60,10 +60,6 @@ gained-moment now limit pin = ⊎-elim (λ (e : isFresh now limit pin ≡ true).
 moments-map : (f : Pin → Pin) (pins : List Pin) → ((pin : Pin) → f pin .moment ≡ pin .moment) → moments (map f pins) ≡ moments pins
 moments-map f [] same = refl
 moments-map f (pin ∷ pins) same = ap (λ m. m ∷ moments (map f pins)) (same pin) ∙ ap (λ ms. pin .moment ∷ ms) (moments-map f pins same)
-
-pin-moment : (pin : Pin) (pins : List Pin) → Among pin pins → among (pin .moment) (moments pins) ≡ true
-pin-moment pin [] a = absurd a
-pin-moment pin (x ∷ pins) a = ⊎-elim (λ e. or-left _ _ (eq-eqb (pin .moment) (x .moment) (ap (λ (y : Pin). y .moment) e))) (λ b. or-right _ _ (pin-moment pin pins b)) a
 
 -- the moments of some pins, each pin having a moment of its own
 some-moments : (f : Pin → Bool) (pins : List Pin) (m : ℕ) → among m (moments (kept-by f pins)) ≡ true → among m (moments pins) ≡ true
@@ -165,9 +161,6 @@ begin-core p o h now limit hall e core w none =
     core-append p o h e hall′ w (gives-nothing p o h e (books .next + 1) (new ∷ books .txs) none) core′
 
 -- commit and abort
-some-tx : (one other : Transaction) → Some one ≡ Some other → one ≡ other
-some-tx one other e = cc
-
 in-removed : (n : ℕ) (txs : List Transaction) (t : Transaction) → Among t (removed n txs) → Among t txs
 in-removed n [] t a = a
 in-removed n (x ∷ txs) t a =

@@ -91,11 +91,15 @@ fn entries_that_are_let_go(rt: LibcRuntime) -> Result<(), Fail> {
     store.unpin(10);
     check_eq(store.free(), 4).note("two entries are above 12")?;
     check_eq(fault_of(store.write(&[])), (41, 0))?;
-    check_eq(read_of(store.ask(12, tally(0, 1))), (Some((1, 5)), 12, ("end", 13)))?;
-    check_eq(fault_of(store.write(&[delete(0, 9)])), (0, 0))?;
-    check_eq(read_of(store.ask(12, tally(0, 1))), (Some((1, 5)), 0, ("end", 13))).note(
-        "the entries of 12 are gone",
+    check_eq(
+        read_of(store.ask(12, tally(0, 1))),
+        (Some((1, 5)), 12, ("end", 13)),
     )?;
+    check_eq(fault_of(store.write(&[delete(0, 9)])), (0, 0))?;
+    check_eq(
+        read_of(store.ask(12, tally(0, 1))),
+        (Some((1, 5)), 0, ("end", 13)),
+    ).note("the entries of 12 are gone")?;
     check_eq(fault_of(store.write(&[set(0, 5, 0, 0)])), (0, 0))?;
     check_eq(store.free(), 3).note("an equal value leaves an entry")
 }
