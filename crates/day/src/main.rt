@@ -11,6 +11,7 @@ use caching::tell_full;
 use hall::tell_day;
 use recency::Recency;
 use recency::RecencyCache;
+use refusals::tell_end;
 use refusals::tell_making;
 use refusals::tell_refusals;
 use split::Split;
@@ -58,7 +59,8 @@ fn tell_versions(rt: &LibcRuntime) -> Result<(), Trouble> {
     let mut last = VersionStore::new(heap, 1, HIGHEST)?;
     println!(rt, "The version store, 6 places, empty at 10")?;
     tell_day(rt, &mut store)?;
-    tell_refusals(rt, &mut store, &mut last)?;
+    tell_refusals(rt, &mut store)?;
+    tell_end(rt, &mut last)?;
     tell_making(rt, "0 places", VersionStore::new(heap, 0, 10))?;
     tell_making(rt, "4097 places", VersionStore::new(heap, 4097, 10))?;
     tell_making(
@@ -82,7 +84,8 @@ fn tell_undo(rt: &LibcRuntime) -> Result<(), Trouble> {
         "The undo store, 6 rows and a journal of 6 entries, empty at 10"
     )?;
     tell_day(rt, &mut store)?;
-    tell_refusals(rt, &mut store, &mut last)?;
+    tell_refusals(rt, &mut store)?;
+    tell_end(rt, &mut last)?;
     tell_making(rt, "0 places", UndoStore::new(heap, &mut [], 10))?;
     tell_making(
         rt,

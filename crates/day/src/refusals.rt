@@ -56,8 +56,8 @@ fn tell_pins<D: Database>(rt: &impl Print, store: &mut D) -> io::Result<()> {
     tell_pin(rt, store)
 }
 
-// For a store after its day, and one at the highest moment.
-pub fn tell_refusals<D: Database>(rt: &impl Print, store: &mut D, last: &mut D) -> io::Result<()> {
+// For a store after its day.
+pub fn tell_refusals<D: Database>(rt: &impl Print, store: &mut D) -> io::Result<()> {
     println!(rt, "What is refused")?;
     tell_ask(rt, store, 11, Query::Get { id: door(5) })?;
     tell_writes(rt, store)?;
@@ -67,10 +67,14 @@ pub fn tell_refusals<D: Database>(rt: &impl Print, store: &mut D, last: &mut D) 
         "and nothing has changed: the latest moment is {latest}, free number {}",
         store.free()
     )?;
-    tell_pins(rt, store)?;
+    tell_pins(rt, store)
+}
+
+// For a store at the highest moment.
+pub fn tell_end<D: Database>(rt: &impl Print, store: &mut D) -> io::Result<()> {
     tell_refused(
         rt,
-        last,
+        store,
         "a write at the highest moment",
         &[set(door(7), 0, 0)],
     )
