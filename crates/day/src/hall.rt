@@ -2,6 +2,7 @@
 use crate::telling::door;
 use crate::telling::doors;
 use crate::telling::set;
+use crate::telling::tell_agreement;
 use crate::telling::tell_ask;
 use crate::telling::tell_free;
 use crate::telling::tell_pin;
@@ -98,4 +99,21 @@ pub fn tell_day<D: Database>(rt: &impl Print, store: &mut D) -> io::Result<()> {
     tell_readings(rt, store)?;
     tell_sheets(rt, store)?;
     tell_reclaim(rt, store)
+}
+
+// Two databases of any kinds that start empty at 10, through the changes of the day.
+pub fn tell_both<A: Database, B: Database>(
+    rt: &impl Print,
+    one: &mut A,
+    other: &mut B,
+) -> io::Result<()> {
+    tell_changes(rt, one)?;
+    tell_changes(rt, other)?;
+    for moment in 10..14 {
+        tell_agreement(rt, one, other, moment, Query::Get { id: door(5) })?;
+        tell_agreement(rt, one, other, moment, Query::Get { id: ticket(900) })?;
+        tell_agreement(rt, one, other, moment, doors(0))?;
+        tell_agreement(rt, one, other, moment, doors(1))?;
+    }
+    Ok(())
 }

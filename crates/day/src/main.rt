@@ -8,6 +8,7 @@ mod telling;
 use cache::Entry;
 use caching::tell_cache;
 use caching::tell_full;
+use hall::tell_both;
 use hall::tell_day;
 use recency::Recency;
 use recency::RecencyCache;
@@ -95,6 +96,17 @@ fn tell_undo(rt: &LibcRuntime) -> Result<(), Trouble> {
     Ok(())
 }
 
+fn tell_stores(rt: &LibcRuntime) -> Result<(), Trouble> {
+    let heap = rt.alloc();
+    let mut journal = [no_entry(); 6];
+    let mut one = VersionStore::new(heap, 6, 10)?;
+    let mut other = UndoStore::new(heap, &mut journal, 10)?;
+    println!(rt, "")?;
+    println!(rt, "The version store and the undo store side by side")?;
+    tell_both(rt, &mut one, &mut other)?;
+    Ok(())
+}
+
 fn tell_node(rt: &LibcRuntime) -> Result<(), Trouble> {
     let mut four = [Entry::blank(); 4];
     let mut two = [Entry::blank(); 2];
@@ -125,6 +137,7 @@ fn tell_split(rt: &LibcRuntime) -> Result<(), Trouble> {
 fn main(rt: LibcRuntime) -> Result<(), Trouble> {
     tell_versions(&rt)?;
     tell_undo(&rt)?;
+    tell_stores(&rt)?;
     tell_node(&rt)?;
     tell_split(&rt)
 }

@@ -9,6 +9,7 @@ use crate::shown::QueryDisplay;
 use crate::shown::ReadingDisplay;
 use crate::shown::Shown;
 use database::Database;
+use database::agree::agree;
 use std::io;
 use terms::Change;
 use terms::Fault;
@@ -109,5 +110,20 @@ pub fn tell_sheet(
     match worth {
         Ok(reading) => println!(rt, "{name} at {moment}: {}", Shown(reading)),
         Err(fault) => println!(rt, "{name} at {moment}: {}", Shown(fault)),
+    }
+}
+
+// Whether two databases read a query alike at a moment.
+pub fn tell_agreement<A: Database, B: Database>(
+    rt: &impl Print,
+    one: &A,
+    other: &B,
+    moment: Moment,
+    query: Query,
+) -> io::Result<()> {
+    match agree(one, other, moment, query) {
+        Ok(true) => println!(rt, "{} at {moment}: read alike", Shown(query)),
+        Ok(false) => println!(rt, "{} at {moment}: read otherwise", Shown(query)),
+        Err(fault) => println!(rt, "{} at {moment}: {}", Shown(query), Shown(fault)),
     }
 }
