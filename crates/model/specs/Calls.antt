@@ -13,7 +13,7 @@ use Rattle.terms.specs.declared.record.Query.{Query}
 use Rattle.terms.specs.declared.record.Change.{Change}
 use Rattle.terms.specs.declared.tag.Tag.{Tag}
 use Rattle.terms.specs.declared.fault.Fault.{Fault}
-use Rattle.terms.specs.declared.fault.Fault.the-variants.{NotOpen, TooManyOpen, LimitTooLong, NumbersUsedUp, FramesOpen, NoFrame, QueryTable, SheetUnknown, TooDeep, NeverDone, RecipeTable, NoPin, NotHeld, MomentsUsedUp, StreamFull, StoreFull, StreamEmpty}
+use Rattle.terms.specs.declared.fault.Fault.the-variants.{NotOpen, TooManyOpen, LimitTooLong, NumbersUsedUp, FramesOpen, NoFrame, QueryTable, SheetUnknown, TooDeep, NeverDone, RecipeTable, NoPin, NotHeld, MomentsUsedUp, StreamFull, StoreFull, StreamEmpty, OutOfRange}
 use Rattle.terms.specs.Moments.{highest}
 use Rattle.terms.specs.Records.{Reading, knownTable, changeTag}
 use Rattle.database.specs.declared.Answer.{Answer}
@@ -310,10 +310,14 @@ pub data Does (rules : Rules) (hall : Hall) : Call → List Change → Reply →
       → Does rules hall (Sweep now age) [] (Swept (length (kept-by (isOld now age) (hall .books .pins)))) None
       (record { db = db; entries = entries; books = withTransactions (kept-by (λ pin. not (isOld now age pin)) (hall .books .pins)) (hall .books .txs) (hall .books) })
 
--- Making: all is unpinned, the cache is cleared, T is the latest moment; the first number is 1 to 4,294,967,295, the stream has 1 to 4,096 rows
+-- Making: 61 unless the first number is 1 to 4,294,967,295 and the stream has 1 to 4,096 rows; database and cache are then unchanged
+abbrev pub makingRefusal : ℕ → ℕ → Option Fault
+makingRefusal first size =
+    cond ((ltb 0 first && leb first 4294967295) && (ltb 0 size && leb size 4096)) None (Some OutOfRange)
+
+-- a making that is not refused: all is unpinned, the cache is cleared, T is the latest moment
 pub record Makes (db : Db) (first size : ℕ) (hall : Hall) : Type 0 where
-  pub numbers : (ltb 0 first && leb first 4294967295) ≡ true
-  pub sizes : (ltb 0 size && leb size 4096) ≡ true
+  pub accepted : makingRefusal first size ≡ None
   pub unpins : UnpinsAll db (hall .db)
   pub cleared : hall .entries ≡ []
   pub books : hall .books ≡ record { next = first; pins = []; txs = []; delivered = hall .db .latest; size = size; rows = [] }
