@@ -1,7 +1,8 @@
 // The value of a sheet, worked out over a database without a cache.
 ghost use mathlib.Core.Path.{_≡_};
 ghost use mathlib.Core.Bool.{true, false};
-ghost use Rattle.recipe.specs.Recipes.{start};
+ghost use Rattle.recipe.specs.Recipes.{start, tableOf};
+ghost use Rattle.terms.specs.Records.{knownTable};
 ghost use Rattle.recipe.specs.Evaluations.{Evaluates};
 use crate::Ask;
 use crate::Point;
@@ -9,6 +10,7 @@ use crate::Recipe;
 use database::Database;
 use terms::Fault;
 use terms::Moment;
+use terms::Query;
 use terms::Reading;
 
 // The point at which a sheet starts.
@@ -24,8 +26,15 @@ pub fn start_of(sheet: u8, argument: u32) -> Point
     }
 }
 
+// Whether a recipe may ask a query: its table is 0 to 7.
+fn is_read(query: Query) -> bool
+    ensures { λ r. ⌜ r ≡ knownTable (tableOf query) ⌝ }
+{
+    query.tag().table < 8
+}
+
 // Works a sheet out at a held moment, with at most `depth` sheets above one another.
-// Refuses with 32 where the moment is not held, 21, 23 or 24 where the sheet has no value, and 22 where the depth is used up.
+// Refuses with 32 at the first query where the moment is not held, 21, 23 or 24 where the sheet has no value, and 22 where the depth is used up.
 pub fn evaluate<D: Database, R: Recipe>(
     db: &D,
     recipe: &R,
@@ -45,7 +54,7 @@ pub fn evaluate<D: Database, R: Recipe>(
         let last = match turn.ask {
             Ask::Done { reading } => return Ok(reading),
             Ask::Query { query } => {
-                if query.tag().table >= 8 {
+                if !is_read(query) {
                     return Err(Fault::RecipeTable { frames: 0 });
                 }
                 db.ask(moment, query)?.reading

@@ -1,11 +1,10 @@
 use mathlib.Core.Path.{_≡_, refl, sym, ap, _∙_}
 use mathlib.Core.Bool.{true, false}
 use Prim.Native.Nat.{_+_}
-use Rattle.std.proofs.shelf.Tests.{le-ltb, lt-ltb}
 use Rattle.terms.specs.Records.{knownTable, queryTag}
 use Rattle.recipe.proofs.Stepping.{finished, queried, called-below, no-table-value, no-depth, no-call-value, no-call-below, never, passed-on, goes-on}
 use Rattle.recipe.proofs.evaluate.+evaluate.Needs as need
-use Rattle.recipe.proofs.evaluate.+evaluate.Needs.{in-Query·else-tag-ge8·in-Continue-ask, in-Call·else-depth-eq0·in-Ok}
+use Rattle.recipe.proofs.evaluate.+evaluate.Needs.{in-Query·else-not-is-read·in-Continue-ask, in-Call·else-depth-eq0·in-Ok}
 
 pub returns-in-Done : need.returns-in-Done
 returns-in-Done g t c =
@@ -13,12 +12,12 @@ returns-in-Done g t c =
     let s = g .D·Database .view (c .args .db .now) .at (c .args .moment) in
     finished p s (c .args .depth) (c .args .sheet) (c .args .argument) (c .loop-answers .answers) (c .loop-answers .point) (c .in-Done .reading) (c .loop-answers-test .taken) (sym (ap (λ t. t .ask) (c .next-turn .ensures)) ∙ c .in-Done .is) (c .loop-answers .inv)
 
-pub returns-then-tag-ge8 : need.returns-then-tag-ge8
-returns-then-tag-ge8 g t c =
+pub returns-then-not-is-read : need.returns-then-not-is-read
+returns-then-not-is-read g t c =
     let p = g .R·Recipe .rules (c .args .recipe .now) in
     let s = g .D·Database .view (c .args .db .now) .at (c .args .moment) in
     let k = c .in-Query .query in
-    let out : knownTable (queryTag k .table) ≡ false = ap (λ tag. knownTable (tag .table)) (sym (c .tag .ensures)) ∙ le-ltb (c .tag .result .table) 8 (c .if-tag-ge8 .taken) in
+    let out : knownTable (queryTag k .table) ≡ false = sym (c .is-read .ensures) ∙ c .if-not-is-read .taken in
     (no-table-value p s (c .args .depth) (c .args .sheet) (c .args .argument) (c .loop-answers .answers) (c .loop-answers .point) k (c .loop-answers-test .taken) (sym (ap (λ t. t .ask) (c .next-turn .ensures)) ∙ c .in-Query .is) out (c .loop-answers .inv), refl)
 
 pub returns-then-depth-eq0 : need.returns-then-depth-eq0
@@ -35,9 +34,9 @@ loop-answers-again g t c =
     let i = c .loop-answers .answers in
     let asked = sym (ap (λ t. t .ask) (c .next-turn .ensures)) in
     elim (c .match-turn .came) [
-      | in-Query·else-tag-ge8·in-Continue-ask w ↦
+      | in-Query·else-not-is-read·in-Continue-ask w ↦
           let k = w .in-Query .query in
-          let known : knownTable (queryTag k .table) ≡ true = ap (λ tag. knownTable (tag .table)) (sym (w .tag .ensures)) ∙ lt-ltb (w .tag .result .table) 8 (w .if-tag-ge8 .left) in
+          let known : knownTable (queryTag k .table) ≡ true = sym (w .is-read .ensures) ∙ w .if-not-is-read .left in
           goes-on p s (c .args .depth) (c .args .sheet) (c .args .argument) (i + 1) q (c .next-turn .result) (c .match-turn .last) _ (c .next-turn .ensures) (w .last-is)
           (queried p s (c .args .depth) (c .args .sheet) (c .args .argument) i q k _ (c .loop-answers-test .taken) (asked ∙ w .in-Query .is) known (w .in-Continue-ask .ensures tt .1 .here) (c .loop-answers .inv))
       | in-Call·else-depth-eq0·in-Ok w ↦
