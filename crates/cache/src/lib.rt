@@ -1,4 +1,6 @@
 // What a cache of readings means: its keys, entries and tags, and the calls that every kind of cache answers.
+#![tactic(auto)]
+
 pub mod cache;
 pub mod entry;
 pub mod key;

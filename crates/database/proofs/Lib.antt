@@ -4,4 +4,5 @@ pub mod Sets
 pub mod Readings
 pub mod Changes
 pub mod Rows
+pub mod Turns
 pub mod Agreements

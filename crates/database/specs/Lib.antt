@@ -3,4 +3,6 @@ pub mod States
 pub mod Rows
 pub mod Databases
 pub mod Writes
+pub mod Turns
+pub mod Scans
 pub mod Agreements

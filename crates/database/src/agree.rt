@@ -21,7 +21,7 @@ pub fn agree<A: Database, B: Database>(
     moment: Moment,
     query: Query,
 ) -> Result<bool, Fault>
-    ensures { Compares (A.Meaning.view one.now) (B.Meaning.view other.now) moment query result }
+    ensures { Compares (A.Database.view one.now) (B.Database.view other.now) moment query result }
 {
     let first = one.ask(moment, query)?;
     let second = other.ask(moment, query)?;

@@ -1,4 +1,6 @@
 // A day of the locker hall, told line by line: what a store went through, what it reads, and what a cache keeps of it.
+#![tactic(auto)]
+
 mod caching;
 mod hall;
 mod refusals;

@@ -1,4 +1,6 @@
 // The recency node: a cache that keeps the entries that were used last.
+#![tactic(auto)]
+
 pub mod node;
 mod place;
 #[cfg(test)]

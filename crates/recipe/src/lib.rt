@@ -1,4 +1,6 @@
 // Recipes: how a sheet is put together, step by step, from queries and other sheets.
+#![tactic(auto)]
+
 ghost use Rattle.std.specs.Prelude.{◌≡◌};
 ghost use Rattle.recipe.specs.Recipes.{Rules, Sized};
 

@@ -1,4 +1,6 @@
 // The split: a cache over any two caches.
+#![tactic(auto)]
+
 pub mod split;
 pub mod three;
 

@@ -1,4 +1,6 @@
 // The plain values of the locker library: moments, records, changes, queries, readings, tags, validity intervals and faults.
+#![tactic(auto)]
+
 pub mod fault;
 pub mod interval;
 pub mod moment;

@@ -1,4 +1,6 @@
 // Trials of the stores and of the sheets: the same tables for every kind of database.
+#![tactic(auto)]
+
 #[cfg(test)]
 mod hall;
 #[cfg(test)]

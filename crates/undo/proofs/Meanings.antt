@@ -1,19 +1,22 @@
 -- What each call makes of the store is what a database means by it.
-use Rattle.std.proofs.Common.{◌≡◌, ℕ, ◌+◌, ◌-◌, ◌≤◌, Bool, true, false, cond, ◌&&◌, ltb, leb, ◌⊎◌, List, [], ◌∷◌, map, length, drop, None, vec_items, Option, sym, refl, ap, ◌∙◌, subst, ⊎_elim, arith}
+use Rattle.std.proofs.Common.{◌≡◌, ℕ, ◌+◌, ◌-◌, ◌<◌, ◌≤◌, Bool, true, false, cond, not, ◌&&◌, eqb, ltb, leb, ◌⊎◌, List, [], ◌∷◌, map, length, drop, Some, None, vec_items, Option, sym, refl, ap, ◌∙◌, subst, ⊎_elim, arith}
+use Rattle.std.proofs.lemmas.Bool.Decides.{nat_tests as telling}
 use Rattle.std.proofs.lemmas.Bool.{cases_Bool, leb-true, le-leb, and_from, and_parts, or_right, or_left, eq-eqb}
 use Rattle.std.proofs.lemmas.List.{length-append, length-map}
 use Rattle.std.specs.List.{flat_map}
 use Rattle.terms.specs.declared.record.Change.{Change}
+use Rattle.terms.specs.declared.fault.Fault.{Fault}
 use Rattle.terms.specs.declared.record.Value.{Value}
 use Rattle.terms.specs.Moments.{highest, is_moment}
 use Rattle.terms.specs.Records.{known_table}
-use Rattle.database.specs.Lists.{every, among}
+use Rattle.database.specs.Lists.{every, among, added, without}
 use Rattle.database.specs.States.{Records, seen, in_state, KeysIn}
 use Rattle.database.specs.Rows.{holding, unique}
-use Rattle.database.specs.Databases.{Sound, Written}
+use Rattle.database.specs.Databases.{held, Sound, Written}
+use Rattle.database.specs.Writes.{changed, refusal, wrong_list, no_room, or_else}
 use Rattle.database.proofs.Sets.{least_among, least_below}
 use Rattle.database.proofs.Rows.{keys_in, few_keys}
-use Rattle.database.proofs.Sets.{every_among}
+use Rattle.database.proofs.Turns.{every_among, every_append, every_kept}
 use Rattle.line.specs.Rings.{waiting}
 use Rattle.line.proofs.Rings.{length-waiting-le, length-waiting-fits, waiting_none}
 use Rattle.undo.specs.declared.entry.Present.{Present}
@@ -22,14 +25,12 @@ use Rattle.undo.specs.declared.ledger.Ledger.{Ledger}
 use Rattle.undo.specs.declared.store.UndoStore.{UndoStore}
 use Rattle.undo.specs.Ledgers.{Grown}
 use Rattle.undo.specs.Journals.{undone, later, rows_of, state_at, present_after_all, entries_after_all, ascending}
-use Rattle.validity.specs.Versions.{rows_at, dated}
-use Rattle.undo.specs.Versions.{current, replaced_by, versions, rightly, is_shown}
+use Rattle.undo.specs.Versions.{current, replaced_by, versions, rows_at, dated, rightly, is_shown}
 use Rattle.undo.specs.Stores.{Store, store_from, store_of, empty_at, in_range, meaning, lowest, needed_of, written, Good}
 use Rattle.undo.proofs.Undoing.{later_later, states_before, state_late, changed_same, put_presents, commits_later, commits_changes, ascending_later, ascending_changes, newest}
 use Rattle.undo.proofs.Telling.{dated_part, dated_changes, told_part, told_changes}
 use Rattle.undo.proofs.Showing.{unique_changes, shown_written}
-use Rattle.validity.proofs.Passes.{few_rows}
-use Rattle.undo.proofs.Passes.{joined_few}
+use Rattle.undo.proofs.Passes.{few_rows, joined_few}
 use Rattle.undo.proofs.Asking.{held_floor, held_past, rows_hold, rows_unique}
 
 -- what a store's type says of it
@@ -88,6 +89,20 @@ sound s good = record {
 
 -- pins
 
+every_added : (p : ℕ → Bool) (n : ℕ) (xs : List ℕ) → every p xs ≡ true → p n ≡ true → every p (added n xs) ≡ true
+every_added p n xs h is =
+    ⊎_elim (λ (e : among n xs ≡ true). rw e h)
+    (λ (e : among n xs ≡ false). rw e (every_append p xs (n ∷ []) ∙ and_from _ _ h (and_from _ _ is refl)))
+    (cases_Bool (among n xs))
+
+-- a moment was added to the pins, or nothing changed
+pub every_either : (p : ℕ → Bool) (m : ℕ) (r : Bool) (xs pins : List ℕ) → (r ≡ true → pins ≡ added m xs) → (r ≡ false → pins ≡ xs) → every p xs ≡ true → p m ≡ true → every p pins ≡ true
+every_either p m r xs pins yes_way no_way h is =
+    ⊎_elim (λ e. ap (every p) (yes_way e) ∙ every_added p m xs h is) (λ e. ap (every p) (no_way e) ∙ h) (cases_Bool r)
+
+pub every_without : (p : ℕ → Bool) (m : ℕ) (xs pins : List ℕ) → pins ≡ without m xs → every p xs ≡ true → every p pins ≡ true
+every_without p m xs pins e h = ap (every p) e ∙ every_kept p (λ x. not (eqb x m)) xs h
+
 -- the lowest held moment
 
 pub lowest_floor : (s : Store) → Good s → s.floor ≤ lowest s
@@ -104,6 +119,12 @@ every_from p [] h = refl
 every_from p (x ∷ xs) h = and_from _ _ (h x (or_left _ _ (eq-eqb x x refl))) (every_from p xs (λ y a. h y (or_right _ _ a)))
 
 -- writes
+
+pub no_refusal : (l free : ℕ) (cs : List Change) → refusal l free cs ≡ None → (l < highest) × (length cs ≤ free)
+no_refusal l free cs none =
+    let f : (o : Option Fault) → or_else o (no_room l free cs) ≡ None → no_room l free cs ≡ None = λ o. elim o as (λ o. or_else o (no_room l free cs) ≡ None → no_room l free cs ≡ None) [ None ↦ λ e. e | Some x ↦ λ e. grind arith ] in
+    let room = f (wrong_list cs) none in
+    grind (arith, telling)
 
 pub writes : (s : Store) (cs : List Change) → Good s → Written (meaning s) cs (s.latest + 1) (meaning (written cs s))
 writes s cs good =

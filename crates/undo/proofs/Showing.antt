@@ -1,5 +1,5 @@
 -- Of each record the versions visible at a moment are the one that it holds there, or none; and so they are after changes.
-use Rattle.std.proofs.Common.{◌≡◌, ℕ, ◌+◌, ◌<◌, ◌≤◌, Bool, true, false, cond, ◌&&◌, ◌||◌, eqb, ltb, leb, ◌⊎◌, List, [], ◌∷◌, ◌++◌, map, length, Some, None, filter, Option, sym, refl, ap, ◌∙◌, ⊎_elim, arith}
+use Rattle.std.proofs.Common.{◌≡◌, ℕ, ◌+◌, ◌-◌, ◌<◌, ◌≤◌, Bool, true, false, cond, not, ◌&&◌, ◌||◌, eqb, ltb, leb, ◌⊎◌, List, [], ◌∷◌, ◌++◌, map, length, Some, None, filter, Option, sym, refl, ap, ◌∙◌, ⊎_elim, arith}
 use Rattle.std.proofs.lemmas.Bool.Decides.{nat_tests as telling}
 use Rattle.std.proofs.lemmas.Bool.{cases_Bool, cases_lt, cond-true, cond-false, leb-true, le-leb, lt-leb, ltb-false, lt-ltb, le-ltb, eq-eqb, and_from, and_parts, and_left, and_right, or_parts}
 use Rattle.std.proofs.lemmas.List.{append-nil, length-append, nil_from_length}
@@ -15,10 +15,9 @@ use Rattle.database.specs.Rows.{holding, present, unique}
 use Rattle.undo.specs.declared.entry.Held.{Held}
 use Rattle.undo.specs.declared.entry.Present.{Present}
 use Rattle.undo.specs.declared.entry.Entry.{Entry}
-use Rattle.validity.specs.declared.version.Version.{Version}
+use Rattle.undo.specs.declared.entry.Version.{Version}
 use Rattle.undo.specs.Journals.{undone, later, rows_of, state_at, held_of, other_than, fresh, present_after, entries_by, present_after_all, entries_after_all}
-use Rattle.validity.specs.Versions.{visible, rows_at, dated}
-use Rattle.undo.specs.Versions.{current, former, replaced_by, versions, values_in, is_only, is_shown}
+use Rattle.undo.specs.Versions.{current, former, replaced_by, versions, visible, rows_at, dated, values_in, is_only, is_shown}
 use Rattle.undo.proofs.Undoing.{later_later, states_before, state_late, commits_changes}
 use Rattle.undo.proofs.Telling.{joined_append, versions_change, dated_changes}
 

@@ -22,3 +22,11 @@ pub struct Entry {
     pub id: RecordId,
     pub former: Option<Held>,
 }
+
+// A value of a record, with the moments at which it was made and, perhaps, replaced.
+#[derive(Clone, Copy)]
+pub struct Version {
+    pub row: Row,
+    pub made: Moment,
+    pub replaced: Option<Moment>,
+}

@@ -1,4 +1,6 @@
 // The undo store: a database that keeps its present records, and a journal of what they held before.
+#![tactic(auto)]
+
 mod calls;
 mod entry;
 mod ledger;

@@ -1,19 +1,44 @@
 // The pass over present records and entries that answers a query.
 ghost use Rattle.std.specs.Prelude.{◌≡◌, ◌+◌, ◌≤◌, map, length, vec_len};
 ghost use Rattle.line.specs.Rings.{waiting};
-ghost use Rattle.undo.specs.Versions.{current, replaced_by, versions};
+ghost use Rattle.undo.specs.Versions.{visible, current, replaced_by, versions};
 ghost use Rattle.undo.specs.Scans.{found, scanned, scanned_all};
 
-use crate::entry::{Entry, Present};
+use crate::entry::{Entry, Present, Version};
 use crate::ledger::Ledger;
+use database::queries::matches_row;
+use database::scan::Scan;
 use terms::{Moment, Query, Row};
-use validity::{Scan, Version};
+
+// Whether a version is visible at a moment.
+fn is_visible(version: Version, moment: Moment) -> bool
+    ensures { result ≡ visible moment version }
+{
+    let lasts = match version.replaced {
+        Some(replaced) => moment < replaced,
+        None => true,
+    };
+    version.made <= moment && lasts
+}
 
 // The scan with one more version. Its made moment counts where it is above the floor.
 fn scan_version(found: Scan, floor: Moment, moment: Moment, query: Query, version: Version) -> Scan
     ensures { result ≡ scanned floor moment query version found }
 {
-    found.with(moment, query, version, floor < version.made)
+    let mut scan = found;
+    if !matches_row(query, version.row) {
+        return scan;
+    }
+    if floor < version.made {
+        scan = scan.turned(moment, version.made);
+    }
+    if let Some(replaced) = version.replaced {
+        scan = scan.turned(moment, replaced);
+    }
+    if is_visible(version, moment) {
+        scan = scan.read(query, version.row);
+    }
+    scan
 }
 
 // The scan with the version that an entry tells.

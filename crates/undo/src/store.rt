@@ -5,8 +5,7 @@ ghost use Rattle.database.specs.Lists.{every};
 ghost use Rattle.database.specs.Rows.{unique};
 ghost use Rattle.line.specs.Rings.{waiting};
 ghost use Rattle.undo.specs.Journals.{rows_of, ascending};
-ghost use Rattle.validity.specs.Versions.{dated};
-ghost use Rattle.undo.specs.Versions.{versions, rightly, is_shown};
+ghost use Rattle.undo.specs.Versions.{versions, dated, rightly, is_shown};
 
 use crate::ledger::Ledger;
 use database::pins::Pins;

@@ -1,4 +1,5 @@
 pub mod Versions
+pub mod Scans
 pub mod Stores
 pub mod Meanings
 pub mod Asking

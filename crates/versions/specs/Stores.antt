@@ -10,10 +10,9 @@ use Rattle.database.specs.declared.Answer.{Answer}
 use Rattle.database.specs.Lists.{every, distinct, added, without}
 use Rattle.database.specs.Rows.{unique, read_rows}
 use Rattle.database.specs.Databases.{Db}
-use Rattle.validity.specs.declared.version.Version.{Version}
-use Rattle.validity.specs.Versions.{rows_at, dated}
+use Rattle.versions.specs.declared.version.Version.{Version}
 use Rattle.versions.specs.declared.store.VersionStore.{VersionStore}
-use Rattle.versions.specs.Versions.{state_at, needed, validity, changed_by_all}
+use Rattle.versions.specs.Versions.{rows_at, state_at, needed, validity, changed_by_all, dated}
 
 -- the places, the latest moment, the pinned moments and the kept versions
 pub record Store : Type 0 where

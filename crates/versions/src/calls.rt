@@ -1,24 +1,25 @@
 // The version store as a database.
 ghost use Rattle.std.specs.Prelude.{◌≡◌, true, false, is_ok, IfOk, MatchResult};
-ghost use Rattle.database.specs.Writes.{refusal};
 ghost use Rattle.database.specs.Databases.{held, PinsLatest, Unpins, UnpinsAll, Asks, Writes};
-ghost use Rattle.validity.specs.Versions.{visible};
-ghost use Rattle.versions.specs.Versions.{needed};
+ghost use Rattle.versions.specs.Versions.{needed, visible};
+ghost use Rattle.versions.specs.Scans.{scan_answer};
 ghost use Rattle.versions.specs.Stores.{in_range, Refused, store_of, meaning, empty_at, pinned, unpinned, unpinned_all, written, answer_at};
 ghost use Rattle.versions.specs.Meanings;
 ghost use Rattle.versions.specs.Meanings.{good};
 
+use crate::scan::Scan;
 use crate::scanning::scan_all;
 use crate::store::VersionStore;
-use crate::walks::change_all;
+use crate::version::Version;
+use crate::walks::{change_all, is_visible};
 use database::pins::Pins;
+use database::queries::rests_on;
 use database::retain::{Test, any_passes, count, retain};
 use database::writes::write_refusal;
-use database::{Answer, Database, Meaning};
+use database::{Answer, Database};
 use std::alloc::Global;
 use terms::moment::is_moment;
-use terms::{Change, Fault, Moment, Query};
-use validity::Version;
+use terms::{Change, Fault, Interval, Moment, Query, Until};
 
 // Passes the versions that are visible at a held moment.
 #[derive(Drop)]
@@ -37,7 +38,7 @@ impl Test<Moment> for Seen {
     ghost passed = { λ s moment. visible moment s.version };
 
     fn passes(&self, moment: Moment) -> bool {
-        self.version.is_visible(moment)
+        is_visible(self.version, moment)
     }
 }
 
@@ -45,7 +46,7 @@ impl Test<Version> for Needed<'_> {
     ghost passed = { λ s v. needed s.latest s.pins.now v };
 
     fn passes(&self, x: Version) -> bool {
-        x.is_visible(self.latest) || any_passes(self.pins, &Seen { version: x })
+        is_visible(x, self.latest) || any_passes(self.pins, &Seen { version: x })
     }
 }
 
@@ -77,22 +78,13 @@ impl VersionStore {
     {
         moment == self.latest || self.pins.contains(moment)
     }
-
-    // Why a write of these changes is refused, if it is.
-    fn refuses(&self, changes: &[Change]) -> Option<Fault>
-        ensures { result ≡ refusal self.now.latest (meaning (store_of self.now)).free changes.now }
-    {
-        write_refusal(self.latest, self.free(), changes)
-    }
-}
-
-impl Meaning for VersionStore {
-    ghost view = { λ s. meaning (store_of s) };
-
-    ghost sound = { λ x. Meanings.sound (store_of x) (good x) };
 }
 
 impl Database for VersionStore {
+    ghost view = { λ s. meaning (store_of s) };
+
+    ghost sound = { λ x. Meanings.sound (store_of x) (good x) };
+
     fn latest(&self) -> Moment {
         self.latest
     }
@@ -111,7 +103,7 @@ impl Database for VersionStore {
         ensures same { is_ok result ≡ false → store_of self.new ≡ store_of self.old }
     {
         let latest = self.latest;
-        if self.pins.pin(latest) {
+        if self.pins.add(latest) {
             Ok(latest)
         } else {
             Err(Fault::NoPin { frames: 0 })
@@ -122,7 +114,7 @@ impl Database for VersionStore {
         ensures means { Unpins (meaning (store_of self.old)) moment (meaning (store_of self.new)) }
         ensures keeps { store_of self.new ≡ unpinned moment (store_of self.old) }
     {
-        self.pins.unpin(moment);
+        self.pins.remove(moment);
     }
 
     fn unpin_all(&mut self)
@@ -139,7 +131,7 @@ impl Database for VersionStore {
         if !self.holds(moment) {
             return Err(Fault::NotHeld { frames: 0 });
         }
-        Ok(scan_all(&self.versions, moment, query).answer(self.latest, query))
+        Ok(answer_of(scan_all(&self.versions, moment, query), self.latest, query))
     }
 
     fn write(&mut self, changes: &[Change]) -> Result<Moment, Fault>
@@ -147,7 +139,7 @@ impl Database for VersionStore {
         ensures keeps { is_ok result ≡ true → store_of self.new ≡ written changes.now (store_of self.old) }
         ensures same { is_ok result ≡ false → store_of self.new ≡ store_of self.old }
     {
-        if let Some(fault) = self.refuses(changes) {
+        if let Some(fault) = write_refusal(self.latest, self.free(), changes) {
             return Err(fault);
         }
         let moment = self.latest + 1;
@@ -159,5 +151,23 @@ impl Database for VersionStore {
         change_all(&mut self.versions, moment, changes);
         self.latest = moment;
         Ok(moment)
+    }
+}
+
+// The answer that a pass has found.
+fn answer_of(scan: Scan, latest: Moment, query: Query) -> Answer
+    ensures { result ≡ scan_answer latest query scan }
+{
+    let until = match scan.end {
+        Some(end) => Until::Ended { end },
+        None => Until::Open { through: latest },
+    };
+    Answer {
+        reading: scan.reading,
+        tag: rests_on(query),
+        interval: Interval {
+            first: scan.first,
+            until,
+        },
     }
 }

@@ -3,11 +3,11 @@ ghost use Rattle.std.specs.Prelude.{◌≡◌, ℕ, ◌≤◌, true, vec_len, ve
 ghost use Rattle.terms.specs.Moments.{highest};
 ghost use Rattle.database.specs.Lists.{every};
 ghost use Rattle.database.specs.Rows.{unique};
-ghost use Rattle.validity.specs.Versions.{rows_at, dated};
+ghost use Rattle.versions.specs.Versions.{rows_at, dated};
 
+use crate::version::Version;
 use database::pins::Pins;
 use terms::Moment;
-use validity::Version;
 
 // A database of up to `places` versions. Their room is reserved at the making.
 #[derive(Drop)]

@@ -1,9 +1,21 @@
 // Steps over lists of versions.
 ghost use Rattle.std.specs.Prelude.{◌≡◌, ◌+◌, ◌≤◌, map, length, vec_len, vec_capacity};
-ghost use Rattle.versions.specs.Versions.{retired, changed_by, changed_by_all};
+ghost use Rattle.database.specs.Rows.{matches};
+ghost use Rattle.versions.specs.Versions.{visible, retired, changed_by, changed_by_all};
 
-use terms::{Change, Moment, RecordId, Row};
-use validity::Version;
+use crate::version::Version;
+use terms::{Change, Moment, Query, RecordId, Row};
+
+// Whether a version is visible at a moment.
+pub(crate) fn is_visible(version: Version, moment: Moment) -> bool
+    ensures { result ≡ visible moment version }
+{
+    let lasts = match version.replaced {
+        Some(replaced) => moment < replaced,
+        None => true,
+    };
+    version.made <= moment && lasts
+}
 
 // The version as it is after its record was changed at a moment.
 fn retire(version: Version, moment: Moment, id: RecordId) -> Version

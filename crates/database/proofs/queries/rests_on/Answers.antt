@@ -1,4 +1,5 @@
-use Rattle.database.proofs.Readings.{alike_at}
+use Rattle.std.proofs.Common.{sym}
+use Rattle.database.proofs.Readings.{reads_alike, alike_at}
 use Rattle.database.proofs.queries.rests_on.Goals as goal
 
 pub returns : goal.returns

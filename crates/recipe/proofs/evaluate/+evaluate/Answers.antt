@@ -7,7 +7,7 @@ use Rattle.recipe.proofs.evaluate.+evaluate.Goals.{in-Query+in-ok-last, in-Call+
 
 pub returns-in-Done : goal.returns-in-Done
 returns-in-Done g t c =
-    let db = g.D.Meaning.view c.args.db.now in
+    let db = g.D.Database.view c.args.db.now in
     let p = g.R.Recipe.rules c.args.recipe.now in
     let asked = sym (ap (λ t. t.ask) c.next-turn.ensures) ∙ c.in-Done.is in
     let exact = stops db p c.args.moment c.args.sheet c.args.argument c.args.depth c.loop-answers.answers c.loop-answers.point (Ok c.in-Done.reading) c.loop-answers-test.true c.loop-answers.invariant (works.Works.done asked) in
@@ -15,7 +15,7 @@ returns-in-Done g t c =
 
 pub returns-in-err-last : goal.returns-in-err-last
 returns-in-err-last g t c =
-    let db = g.D.Meaning.view c.args.db.now in
+    let db = g.D.Database.view c.args.db.now in
     let p = g.R.Recipe.rules c.args.recipe.now in
     let fault = c.in-err-last.field-0.0 in
     let asked = sym (ap (λ t. t.ask) c.next-turn.ensures) ∙ c.in-Query.is in
@@ -27,7 +27,7 @@ returns-in-err-last g t c =
 
 pub returns-then-sheet-sheets-2 : goal.returns-then-sheet-sheets-2
 returns-then-sheet-sheets-2 g t c =
-    let db = g.D.Meaning.view c.args.db.now in
+    let db = g.D.Database.view c.args.db.now in
     let p = g.R.Recipe.rules c.args.recipe.now in
     let asked = sym (ap (λ t. t.ask) c.next-turn.ensures) ∙ c.in-Call.is in
     let exact = stops db p c.args.moment c.args.sheet c.args.argument c.args.depth c.loop-answers.answers c.loop-answers.point _ c.loop-answers-test.true c.loop-answers.invariant
@@ -36,7 +36,7 @@ returns-then-sheet-sheets-2 g t c =
 
 pub returns-then-depth-eq0 : goal.returns-then-depth-eq0
 returns-then-depth-eq0 g t c =
-    let db = g.D.Meaning.view c.args.db.now in
+    let db = g.D.Database.view c.args.db.now in
     let p = g.R.Recipe.rules c.args.recipe.now in
     let asked = sym (ap (λ t. t.ask) c.next-turn.ensures) ∙ c.in-Call.is in
     let exact = stops db p c.args.moment c.args.sheet c.args.argument c.args.depth c.loop-answers.answers c.loop-answers.point _ c.loop-answers-test.true c.loop-answers.invariant
@@ -46,7 +46,7 @@ returns-then-depth-eq0 g t c =
 
 pub returns-in-err-last-2 : goal.returns-in-err-last-2
 returns-in-err-last-2 g t c =
-    let db = g.D.Meaning.view c.args.db.now in
+    let db = g.D.Database.view c.args.db.now in
     let p = g.R.Recipe.rules c.args.recipe.now in
     let fault = c.in-err-last-2.field-0.0 in
     let asked = sym (ap (λ t. t.ask) c.next-turn.ensures) ∙ c.in-Call.is in
@@ -59,7 +59,7 @@ returns-in-err-last-2 g t c =
 
 pub loop-answers-preserved : goal.loop-answers-preserved
 loop-answers-preserved g t c =
-    let db = g.D.Meaning.view c.args.db.now in
+    let db = g.D.Database.view c.args.db.now in
     let p = g.R.Recipe.rules c.args.recipe.now in
     let q = c.loop-answers.point in
     let i = c.loop-answers.answers in
@@ -76,7 +76,7 @@ loop-answers-preserved g t c =
 
 pub returns : goal.returns
 returns g t c =
-    let db = g.D.Meaning.view c.args.db.now in
+    let db = g.D.Database.view c.args.db.now in
     let p = g.R.Recipe.rules c.args.recipe.now in
     let q = c.loop-answers.point in
     let same = c.last-answer.ensures ∙ ap (λ t. last_answer t.ask) c.next.ensures in

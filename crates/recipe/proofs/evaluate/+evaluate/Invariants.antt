@@ -5,4 +5,4 @@ abbrev pub decreases-evaluate : goal.decreases-evaluate
 decreases-evaluate g l = l.depth
 
 abbrev pub invariant-loop-answers : goal.invariant-loop-answers
-invariant-loop-answers g l = At (g.D.Meaning.view l.db) (g.R.Recipe.rules l.recipe) l.moment l.sheet l.argument l.depth l.answers l.point
+invariant-loop-answers g l = At (g.D.Database.view l.db) (g.R.Recipe.rules l.recipe) l.moment l.sheet l.argument l.depth l.answers l.point

@@ -6,10 +6,10 @@ use Rattle.recipe.proofs.sheets.claim_sheet.Goals as goal
 
 pub returns-in-Ok : goal.returns-in-Ok
 returns-in-Ok g c =
-    let s = (g.D.Meaning.view c.args.db.now).at c.args.moment in
+    let s = (g.D.Database.view c.args.db.now).at c.args.moment in
     same_end c.in-Ok.ensures.means.1.1 (claim_gives s c.args.ticket).1.1
 
 pub returns-in-Err : goal.returns-in-Err
 returns-in-Err g c =
-    let db = g.D.Meaning.view c.args.db.now in
+    let db = g.D.Database.view c.args.db.now in
     (unheld db attendant c.args.moment 0 c.args.ticket 0 _ (λ h. (claim_of (db.at c.args.moment) c.args.ticket, claim_gives (db.at c.args.moment) c.args.ticket)) c.in-Err.ensures.means, refl)

@@ -1,7 +1,6 @@
 use Rattle.std.proofs.Common.{◌≡◌, take}
-use Rattle.validity.specs.Scans.{found}
-use Rattle.versions.specs.Versions.{counted}
+use Rattle.versions.specs.Scans.{summary}
 use Rattle.versions.proofs.scanning.scan_all.Given as goal
 
 abbrev pub invariant-loop-version : goal.invariant-loop-version
-invariant-loop-version l = l.scan ≡ found counted l.moment l.query (take l.version-index l.versions)
+invariant-loop-version l = l.scan ≡ summary l.moment l.query (take l.version-index l.versions)

@@ -1,7 +1,7 @@
 use Rattle.std.proofs.Common.{◌≡◌, true, sym, ap, ◌∙◌, subst, arith}
 use Rattle.database.specs.Databases.{Answers, held}
 use Rattle.database.specs.declared.Answer.{Answer}
-use Rattle.validity.specs.Scans.{scan_answer}
+use Rattle.database.specs.Scans.{scan_answer}
 use Rattle.undo.specs.Stores.{store_of, meaning}
 use Rattle.undo.proofs.Meanings.{good}
 use Rattle.undo.proofs.Asking.{answer_at, answers, answer_found}

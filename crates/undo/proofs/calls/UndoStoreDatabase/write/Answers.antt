@@ -1,8 +1,8 @@
-use Rattle.std.proofs.Common.{◌+◌, ◌≤◌, length, vec_items, vec_len, vec_capacity, sym, ap, arith, rules}
+use Rattle.std.proofs.Common.{◌+◌, ◌≤◌, length, vec_items, vec_len, vec_capacity, sym, ap, ◌∙◌, arith, rules}
+use Rattle.database.specs.Writes.{refusal}
 use Rattle.line.proofs.Rings.{length-waiting-fits}
-use Rattle.database.proofs.Changes.{no_refusal}
-use Rattle.undo.specs.Stores.{store_of, store_from, meaning}
-use Rattle.undo.proofs.Meanings.{good, needed_part, writes_left, writes_lasting, writes_mean}
+use Rattle.undo.specs.Stores.{store_of, store_from}
+use Rattle.undo.proofs.Meanings.{good, no_refusal, needed_part, writes_left, writes_lasting, writes_mean}
 use Rattle.undo.proofs.calls.UndoStoreDatabase.write.Goals as goal
 
 pub change-all-requires : goal.change-all-requires
@@ -10,13 +10,13 @@ change-all-requires c =
     let s = c.args.self.now in
     let l = c.keep.new.self in
     let part = needed_part s c.lowest-lowest.result c.needed-needed.result _ c.lowest-lowest.ensures c.needed-needed.ensures c.keep.ensures.entries in
-    let room = no_refusal s.latest (meaning (store_of s)).free c.args.changes.now (sym c.in-default.ensures) in
+    let room = no_refusal s.latest c.free.result c.args.changes.now (sym c.in-default.ensures) in
     let journal = ap length c.keep.ensures.journal in
     let fits : l.line.size ≤ length l.journal.now = omega (arith, c.keep.ensures.size, s.fits) in
     let here = length-waiting-fits l.line l.journal.now fits in
     record {
-      rows = omega (arith, ap vec_len c.keep.ensures.present, ap vec_capacity c.keep.ensures.present, s.room, s.ledger.present.ok.0, room.1);
-      places = omega (arith, ap length part, room.1, c.keep.ensures.size);
+      rows = omega (arith, ap vec_len c.keep.ensures.present, ap vec_capacity c.keep.ensures.present, s.room, s.ledger.present.ok.0, room.1, c.free.ensures);
+      places = omega (arith, ap length part, room.1, c.free.ensures, c.keep.ensures.size);
       fits = fits;
     }
 
@@ -28,7 +28,7 @@ invariant-of-self c =
     let kept = c.keep.ensures.present in
     let grown = c.change-all.ensures.grown in
     let part = needed_part s c.lowest-lowest.result c.needed-needed.result _ c.lowest-lowest.ensures c.needed-needed.ensures c.keep.ensures.entries in
-    let room = no_refusal s.latest (meaning (store_of s)).free cs (sym c.in-default.ensures) in
+    let room = no_refusal s.latest c.free.result cs (sym c.in-default.ensures) in
     let to = writes_left s cs c.lowest-lowest.result c.keep.new.self l c.lowest-lowest.ensures part kept c.keep.ensures.size grown c.change-all.ensures.present c.change-all.ensures.entries in
     let w = writes_lasting (store_of s) cs (store_from (s.latest + 1) c.lowest-lowest.result (vec_items s.pins.moments) l) to (good s) in (
       omega (arith, grown.size, c.keep.ensures.size, s.size),
@@ -37,7 +37,7 @@ invariant-of-self c =
         (
           grown.fits,
           (
-            omega (arith, grown.rows, grown.size, ap vec_len kept, c.keep.ensures.size, s.ledger.present.ok.0, room.1),
+            omega (arith, grown.rows, grown.size, ap vec_len kept, c.keep.ensures.size, s.ledger.present.ok.0, room.1, c.free.ensures),
             (
               omega (arith, room.0),
               (w.past, (w.kept, (w.single, (w.ascends, (w.commits, (w.dates, (w.told, (w.apart, tt)))))))),
@@ -55,7 +55,7 @@ returns c =
     let part = needed_part s c.lowest-lowest.result c.needed-needed.result _ c.lowest-lowest.ensures c.needed-needed.ensures c.keep.ensures.entries in
     let to = writes_left s cs c.lowest-lowest.result c.keep.new.self l c.lowest-lowest.ensures part c.keep.ensures.present c.keep.ensures.size c.change-all.ensures.grown c.change-all.ensures.present c.change-all.ensures.entries in
     record {
-      means = (sym c.in-default.ensures, writes_mean (store_of s) cs (store_from (s.latest + 1) c.lowest-lowest.result (vec_items s.pins.moments) l) to (good s));
+      means = (ap (λ free. refusal s.latest free cs) (sym c.free.ensures) ∙ sym c.in-default.ensures, writes_mean (store_of s) cs (store_from (s.latest + 1) c.lowest-lowest.result (vec_items s.pins.moments) l) to (good s));
       keeps = λ _. to;
       same = λ e. search rules;
     }

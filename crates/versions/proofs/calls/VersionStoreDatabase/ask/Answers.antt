@@ -1,8 +1,7 @@
 use Rattle.std.proofs.Common.{◌≡◌, true, sym, ap, ◌∙◌, subst}
 use Rattle.database.specs.Databases.{Answers, held}
 use Rattle.database.specs.declared.Answer.{Answer}
-use Rattle.validity.specs.Scans.{scan_answer, found}
-use Rattle.versions.specs.Versions.{counted}
+use Rattle.versions.specs.Scans.{scan_answer, summary}
 use Rattle.versions.specs.Stores.{store_of, meaning, answer_at}
 use Rattle.versions.specs.Meanings.{good}
 use Rattle.versions.specs.Asking.{answers}
@@ -13,8 +12,8 @@ returns c =
     let s = c.args.self.now in
     let m = c.args.moment in
     let q = c.args.query in
-    let is : c.answer.result ≡ answer_at (store_of s) m q =
-    c.answer.ensures ∙ ap (scan_answer s.latest q) (c.scan-all.ensures ∙ ap (found counted m q) c.deref.ensures.value) in
+    let is : c.answer-of.result ≡ answer_at (store_of s) m q =
+    c.answer-of.ensures ∙ ap (scan_answer s.latest q) (c.scan-all.ensures ∙ ap (summary m q) c.deref.ensures.value) in
     let kept : held (meaning (store_of s)) m ≡ true = sym c.holds.ensures ∙ c.if-not-holds.false in
     let P : Answer → Type 0 = λ a. Answers (meaning (store_of s)) m q a in
     record { means = (kept, subst P (sym is) (answers (store_of s) m q (good s) kept)); exact = is }

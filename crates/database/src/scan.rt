@@ -1,14 +1,13 @@
-// One pass over versions, which answers a query.
+// One pass over records and turns, which answers a query.
 ghost use Rattle.std.specs.Prelude.{◌≡◌, ℕ, []};
-ghost use Rattle.validity.specs.Scans.{summary, turned_by, read_more, read_by, scanned, scan_answer};
+ghost use Rattle.database.specs.Scans.{summary, turned_by, read_more, read_by, scan_answer};
 
-use crate::version::Version;
-use database::Answer;
-use database::queries::{matches_row, rests_on};
+use crate::Answer;
+use crate::queries::rests_on;
 use terms::record::reading_of;
 use terms::{Interval, Moment, Query, Reading, Row, Until};
 
-// The reading, and the made and replaced moments next to the moment asked: the greatest up to it, and the smallest above it.
+// The reading, and the turns next to the moment asked: the greatest up to it, and the smallest above it.
 #[derive(Clone, Copy)]
 pub struct Scan {
     pub reading: Reading,
@@ -43,8 +42,8 @@ impl Scan {
         }
     }
 
-    // The scan with one more made or replaced moment.
-    fn turned(self, moment: Moment, turn: Moment) -> Scan
+    // The scan with one more turn.
+    pub fn turned(self, moment: Moment, turn: Moment) -> Scan
         ensures { result ≡ turned_by moment turn self }
     {
         if turn <= moment {
@@ -64,33 +63,13 @@ impl Scan {
     }
 
     // The scan with one more record that the query reads.
-    fn read(self, query: Query, row: Row) -> Scan
+    pub fn read(self, query: Query, row: Row) -> Scan
         ensures { result ≡ read_by query row self }
     {
         Scan {
             reading: read_more(query, self.reading, row),
             ..self
         }
-    }
-
-    // The scan with one more version, whose made moment counts where that is told.
-    pub fn with(self, moment: Moment, query: Query, version: Version, told: bool) -> Scan
-        ensures { result ≡ scanned told moment query version self }
-    {
-        let mut scan = self;
-        if !matches_row(query, version.row) {
-            return scan;
-        }
-        if told {
-            scan = scan.turned(moment, version.made);
-        }
-        if let Some(replaced) = version.replaced {
-            scan = scan.turned(moment, replaced);
-        }
-        if version.is_visible(moment) {
-            scan = scan.read(query, version.row);
-        }
-        scan
     }
 
     // The answer of a store with this latest moment.

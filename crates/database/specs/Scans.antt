@@ -1,23 +1,18 @@
--- One pass over versions: what it has found after some of them, and what one more adds.
-use Rattle.std.specs.Prelude.{ℕ, ◌+◌, min, max, Bool, cond, List, Some, None, Option, nat_le}
+-- What a pass over records and turns has found, and what one more adds.
+use Rattle.std.specs.Prelude.{ℕ, ◌+◌, min, max, cond, List, Some, None, Option, nat_le}
 use Rattle.terms.specs.declared.record.Row.{Row}
 use Rattle.terms.specs.declared.record.Query.{Query}
 use Rattle.terms.specs.declared.record.Query.TheVariants.{Get, Tally}
-use Rattle.terms.specs.Records.{Reading, shown, query_tag}
+use Rattle.terms.specs.Records.{Reading, shown}
+use Rattle.terms.specs.Records.{query_tag}
 use Rattle.database.specs.declared.Answer.{Answer}
-use Rattle.database.specs.Rows.{matches, read_rows}
-use Rattle.validity.specs.declared.scan.Scan.{Scan}
-use Rattle.validity.specs.declared.version.Version.{Version}
-use Rattle.validity.specs.Turns.{first_of, end_of, until_of}
-use Rattle.validity.specs.Versions.{visible, rows_at, turns_among}
+use Rattle.database.specs.declared.scan.Scan.{Scan}
+use Rattle.database.specs.Rows.{read_rows}
+use Rattle.database.specs.Turns.{first_of, end_of, until_of}
 
 -- what a pass has found of these present records and these turns
 abbrev pub summary : ℕ → Query → List Row → List ℕ → Scan
 summary moment query rows turns = record { reading = read_rows query rows; first = first_of moment turns; end = end_of moment turns }
-
--- what it has found of these versions at a moment, where the made moments of some count
-abbrev pub found : (Version → Bool) → ℕ → Query → List Version → Scan
-found counts moment query versions = summary moment query (rows_at moment versions) (turns_among counts query versions)
 
 -- one more turn
 abbrev pub first_with : ℕ → ℕ → ℕ → ℕ
@@ -42,23 +37,6 @@ read_more (Tally table state) (Some pair) row = Some (min (pair.0 + 1) 429496729
 
 abbrev pub read_by : Query → Row → Scan → Scan
 read_by query row scan = record { reading = read_more query scan.reading row; first = scan.first; end = scan.end }
-
-abbrev pub turned_if : Bool → ℕ → ℕ → Scan → Scan
-turned_if counts moment turn scan = cond counts (turned_by moment turn scan) scan
-
-abbrev pub turned_again : ℕ → Option ℕ → Scan → Scan
-turned_again moment None scan = scan
-turned_again moment (Some turn) scan = turned_by moment turn scan
-
-abbrev pub read_if : Bool → Query → Row → Scan → Scan
-read_if seen query row scan = cond seen (read_by query row scan) scan
-
--- one more version, whose made moment counts where that is told
-abbrev pub scanned : Bool → ℕ → Query → Version → Scan → Scan
-scanned told moment query version scan =
-    cond (matches query version.row)
-    (read_if (visible moment version) query version.row (turned_again moment version.replaced (turned_if told moment version.made scan)))
-    scan
 
 -- the answer that a pass has found
 abbrev pub scan_answer : ℕ → Query → Scan → Answer
