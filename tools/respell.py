@@ -24,7 +24,7 @@ APART = {
 
 TOKEN = re.compile(r"[A-Za-z_][A-Za-z0-9_'-]*")
 TOP = re.compile(r"^(?:abbrev |pub |data |record |unfoldable )*([A-Za-z_][A-Za-z0-9_'-]*)\s*(?=[:({])(.*)$")
-INNER = re.compile(r"^\s+(?:pub )?([A-Za-z_][A-Za-z0-9_'-]*) : ")
+INNER = re.compile(r"^  (?:abbrev )?(?:pub )?([A-Za-z_][A-Za-z0-9_'-]*) : ")
 
 
 def snake(name):
@@ -53,8 +53,9 @@ def declared(path):
                 top.add(m.group(1))
         elif line.strip() and not line.startswith((" ", "\t")):
             block = False
-        elif block and INNER.match(line):
-            inner.add(INNER.match(line).group(1))
+        elif INNER.match(line):
+            # a field or a constructor, or a lemma in a module with parameters
+            (inner if block else top).add(INNER.match(line).group(1))
     return top, inner
 
 

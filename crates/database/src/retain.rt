@@ -12,7 +12,7 @@ pub trait Test<T> {
 
 // Whether an element passes.
 pub fn any_passes<T: Copy, P: Test<T>>(list: &[T], test: &P) -> bool
-    ensures { result ≡ any (passed test.now) list.now }
+    ensures { result ≡ any (P.passed test.now) list.now }
 {
     for i in 0..list.len() {
         if test.passes(list[i]) {
@@ -24,7 +24,7 @@ pub fn any_passes<T: Copy, P: Test<T>>(list: &[T], test: &P) -> bool
 
 // How many elements pass.
 pub fn count<T: Copy, P: Test<T>>(list: &[T], test: &P) -> usize
-    ensures { result ≡ length (filter (passed test.now) list.now) }
+    ensures { result ≡ length (filter (P.passed test.now) list.now) }
 {
     let mut total = 0;
     for x in list {
@@ -37,7 +37,7 @@ pub fn count<T: Copy, P: Test<T>>(list: &[T], test: &P) -> usize
 
 // Lets go of the elements that do not pass; the others keep their order.
 pub fn retain<T: Copy, P: Test<T>>(list: &mut Vec<T>, test: &P)
-    ensures items { list.new.items ≡ filter (passed test.now) list.old.items }
+    ensures items { list.new.items ≡ filter (P.passed test.now) list.old.items }
     ensures capacity { vec_capacity list.new ≡ vec_capacity list.old }
 {
     let mut filled = 0;

@@ -59,136 +59,136 @@ none_some : (at : ℕ) → ◌≡◌ {A = Option ℕ} None (Some at) → ⊥
 none_some at e = let z : ◌≡◌ {A = ℕ} 0 1 = cc in omega arith
 
 module _ {X : Type 0} where
-  length-turned : (h : ℕ) (xs : List X) → h ≤ length xs → length (turned h xs) ≡ length xs
+  length_turned : (h : ℕ) (xs : List X) → h ≤ length xs → length (turned h xs) ≡ length xs
   unfolding turned
-  length-turned h xs le = length-append (drop h xs) (take h xs) ∙ omega (arith, length-drop h xs, length-take h xs)
+  length_turned h xs le = length-append (drop h xs) (take h xs) ∙ omega (arith, length-drop h xs, length-take h xs)
 
-  getD-turned-low : (h i : ℕ) (xs : List X) (d : X) → h + i < length xs → get_or (turned h xs) i d ≡ get_or xs (h + i) d
+  get_d_turned_low : (h i : ℕ) (xs : List X) (d : X) → h + i < length xs → get_or (turned h xs) i d ≡ get_or xs (h + i) d
   unfolding turned
-  getD-turned-low h i xs d lt =
+  get_d_turned_low h i xs d lt =
       get_or_append_left (drop h xs) (take h xs) d i (simp length-drop (omega arith)) ∙ get_or-drop h xs i d
 
-  getD-turned-high : (h i : ℕ) (xs : List X) (d : X) → h ≤ length xs → length xs - h ≤ i → i < length xs → get_or (turned h xs) i d ≡ get_or xs (i - (length xs - h)) d
+  get_d_turned_high : (h i : ℕ) (xs : List X) (d : X) → h ≤ length xs → length xs - h ≤ i → i < length xs → get_or (turned h xs) i d ≡ get_or xs (i - (length xs - h)) d
   unfolding turned
-  getD-turned-high h i xs d le far lt =
+  get_d_turned_high h i xs d le far lt =
       get_or-append_right (drop h xs) (take h xs) (length xs - h) i d (length-drop h xs) far ∙ get_or-take h xs (i - (length xs - h)) d (omega arith)
 
-  pub length-waiting : (l : Line) (room : List X) → length (waiting l room) ≡ counted l (length room)
+  pub length_waiting : (l : Line) (room : List X) → length (waiting l room) ≡ counted l (length room)
   unfolding waiting
-  length-waiting l room =
+  length_waiting l room =
       let ring = turned l.head (take l.size room) in
       ⊎_elim (λ short. omega (arith, length-take (counted l (length room)) ring, counted_short l (length room) short))
       (λ fits. omega (
         arith,
         length-take (counted l (length room)) ring,
         counted_fits l (length room) fits,
-        length-turned l.head (take l.size room) (omega (arith, length-take-le l.size room fits)),
+        length_turned l.head (take l.size room) (omega (arith, length-take-le l.size room fits)),
         length-take-le l.size room fits,
       ))
       (cases_lt (length room) l.size)
 
   -- as many wait as the line counts
-  pub length-waiting-fits : (l : Line) (room : List X) → l.size ≤ length room → length (waiting l room) ≡ l.len
-  length-waiting-fits l room fits = length-waiting l room ∙ counted_fits l (length room) fits
+  pub length_waiting_fits : (l : Line) (room : List X) → l.size ≤ length room → length (waiting l room) ≡ l.len
+  length_waiting_fits l room fits = length_waiting l room ∙ counted_fits l (length room) fits
 
   -- nothing waits in a slice that is shorter than the line's size
-  pub waiting-short : (l : Line) (room : List X) → length room < l.size → waiting l room ≡ []
-  waiting-short l room short = nil_from_length (waiting l room) (length-waiting l room ∙ counted_short l (length room) short)
+  pub waiting_short : (l : Line) (room : List X) → length room < l.size → waiting l room ≡ []
+  waiting_short l room short = nil_from_length (waiting l room) (length_waiting l room ∙ counted_short l (length room) short)
 
-  pub length-waiting-le : (l : Line) (room : List X) → length (waiting l room) ≤ l.len
-  length-waiting-le l room =
-      ⊎_elim (λ short. omega (arith, length-waiting l room, counted_short l (length room) short)) (λ fits. omega (arith, length-waiting-fits l room fits)) (cases_lt (length room) l.size)
+  pub length_waiting_le : (l : Line) (room : List X) → length (waiting l room) ≤ l.len
+  length_waiting_le l room =
+      ⊎_elim (λ short. omega (arith, length_waiting l room, counted_short l (length room) short)) (λ fits. omega (arith, length_waiting_fits l room fits)) (cases_lt (length room) l.size)
 
   pub waiting_none : (l : Line) (room : List X) → l.len ≡ 0 → waiting l room ≡ []
   waiting_none l room none =
-      ⊎_elim (waiting-short l room) (λ fits. nil_from_length (waiting l room) (length-waiting-fits l room fits ∙ none)) (cases_lt (length room) l.size)
+      ⊎_elim (waiting_short l room) (λ fits. nil_from_length (waiting l room) (length_waiting_fits l room fits ∙ none)) (cases_lt (length room) l.size)
 
   -- the i-th that waits stands at the i-th place
-  pub getD-waiting : (l : Line) (room : List X) (i : ℕ) (d : X) → l.size ≤ length room → i < l.len → get_or (waiting l room) i d ≡ get_or room (place_of l i) d
+  pub get_d_waiting : (l : Line) (room : List X) (i : ℕ) (d : X) → l.size ≤ length room → i < l.len → get_or (waiting l room) i d ≡ get_or room (place_of l i) d
   unfolding waiting
-  getD-waiting l room i d fits lt =
+  get_d_waiting l room i d fits lt =
       let n = length-take-le l.size room fits in
       let xs = take l.size room in
       let front : get_or (waiting l room) i d ≡ get_or (turned l.head xs) i d =
       get_or-take (counted l (length room)) (turned l.head xs) i d (omega (arith, counted_fits l (length room) fits)) in
       let place : get_or (turned l.head xs) i d ≡ get_or xs (place_of l i) d =
-      ⊎_elim (λ low. getD-turned-low l.head i xs d (omega arith) ∙ ap (λ k. get_or xs k d) (sym (place_low l i low)))
-      (λ high. getD-turned-high l.head i xs d (omega arith) (omega arith) (omega arith) ∙ ap (λ k. get_or xs k d) (omega (arith, place_high l i high)))
+      ⊎_elim (λ low. get_d_turned_low l.head i xs d (omega arith) ∙ ap (λ k. get_or xs k d) (sym (place_low l i low)))
+      (λ high. get_d_turned_high l.head i xs d (omega arith) (omega arith) (omega arith) ∙ ap (λ k. get_or xs k d) (omega (arith, place_high l i high)))
       (cases_lt i (l.size - l.head)) in
       front ∙ place ∙ get_or-take l.size room (place_of l i) d (place_within l i (omega arith))
 
   -- what `get` answers, by the element at a place
-  pub nth-waiting : (l : Line) (room : List X) (i : ℕ) (d : X) → l.size ≤ length room → i < l.len → slice_get (waiting l room) i ≡ Some (get_or (waiting l room) i d)
-  nth-waiting l room i d fits lt = slice_get-get_or (waiting l room) i d (omega (arith, length-waiting-fits l room fits))
+  pub nth_waiting : (l : Line) (room : List X) (i : ℕ) (d : X) → l.size ≤ length room → i < l.len → slice_get (waiting l room) i ≡ Some (get_or (waiting l room) i d)
+  nth_waiting l room i d fits lt = slice_get-get_or (waiting l room) i d (omega (arith, length_waiting_fits l room fits))
 
-  nth-place : (l : Line) (room : List X) (i : ℕ) (x : X) → i < counted l (length room) → x ≡ get_or room (place_of l i) x → slice_get (waiting l room) i ≡ Some x
-  nth-place l room i x lt is =
+  nth_place : (l : Line) (room : List X) (i : ℕ) (x : X) → i < counted l (length room) → x ≡ get_or room (place_of l i) x → slice_get (waiting l room) i ≡ Some x
+  nth_place l room i x lt is =
       ⊎_elim (λ short. absurd (omega (arith, counted_short l (length room) short)))
       (λ fits. let within : i < l.len = omega (arith, counted_fits l (length room) fits) in
-      nth-waiting l room i x fits within ∙ ap Some (getD-waiting l room i x fits within ∙ sym is))
+      nth_waiting l room i x fits within ∙ ap Some (get_d_waiting l room i x fits within ∙ sym is))
       (cases_lt (length room) l.size)
 
-  pub nth-found : (l : Line) (room : List X) (i at : ℕ) (x : X) → Some at ≡ place_in l (length room) i → x ≡ get_or room at x → slice_get (waiting l room) i ≡ Some x
-  nth-found l room i at x found is =
-      ⊎_elim (λ low. let there : at ≡ place_of l i = cc (found, in_low l (length room) i low) in nth-place l room i x low (is ∙ ap (λ k. get_or room k x) there))
+  pub nth_found : (l : Line) (room : List X) (i at : ℕ) (x : X) → Some at ≡ place_in l (length room) i → x ≡ get_or room at x → slice_get (waiting l room) i ≡ Some x
+  nth_found l room i at x found is =
+      ⊎_elim (λ low. let there : at ≡ place_of l i = cc (found, in_low l (length room) i low) in nth_place l room i x low (is ∙ ap (λ k. get_or room k x) there))
       (λ high. absurd (none_some at (sym (found ∙ in_high l (length room) i high))))
       (cases_lt i (counted l (length room)))
 
-  pub nth-missing : (l : Line) (room : List X) (i : ℕ) → None ≡ place_in l (length room) i → slice_get (waiting l room) i ≡ None
-  nth-missing l room i missing =
+  pub nth_missing : (l : Line) (room : List X) (i : ℕ) → None ≡ place_in l (length room) i → slice_get (waiting l room) i ≡ None
+  nth_missing l room i missing =
       ⊎_elim (λ low. absurd (none_some (place_of l i) (missing ∙ in_low l (length room) i low)))
-      (λ high. slice_get_past (waiting l room) i (omega (arith, length-waiting l room)))
+      (λ high. slice_get_past (waiting l room) i (omega (arith, length_waiting l room)))
       (cases_lt i (counted l (length room)))
 
   -- two lines of one length whose places hold the same
-  pub waiting-same : (l l' : Line) (room room' : List X) → l.size ≤ length room → l'.size ≤ length room' → l'.len ≡ l.len → ((i : ℕ) (d : X) → i < l.len → get_or room' (place_of l' i) d ≡ get_or room (place_of l i) d) → waiting l' room' ≡ waiting l room
-  waiting-same l l' room room' fits fits' lens same =
+  pub waiting_same : (l l' : Line) (room room' : List X) → l.size ≤ length room → l'.size ≤ length room' → l'.len ≡ l.len → ((i : ℕ) (d : X) → i < l.len → get_or room' (place_of l' i) d ≡ get_or room (place_of l i) d) → waiting l' room' ≡ waiting l room
+  waiting_same l l' room room' fits fits' lens same =
       same_lists (waiting l' room') (waiting l room)
-      (length-waiting-fits l' room' fits' ∙ lens ∙ sym (length-waiting-fits l room fits))
-      (λ k d lt. let within : k < l.len = omega (arith, length-waiting-fits l' room' fits') in
-      getD-waiting l' room' k d fits' (omega arith) ∙ same k d within ∙ sym (getD-waiting l room k d fits within))
+      (length_waiting_fits l' room' fits' ∙ lens ∙ sym (length_waiting_fits l room fits))
+      (λ k d lt. let within : k < l.len = omega (arith, length_waiting_fits l' room' fits') in
+      get_d_waiting l' room' k d fits' (omega arith) ∙ same k d within ∙ sym (get_d_waiting l room k d fits within))
 
   -- a write where none waits
-  pub waiting-set : (l : Line) (room : List X) (at : ℕ) (x : X) → ((i : ℕ) → i < l.len → place_of l i ≢ at) → waiting l (set room at x) ≡ waiting l room
-  waiting-set l room at x apart =
+  pub waiting_set : (l : Line) (room : List X) (at : ℕ) (x : X) → ((i : ℕ) → i < l.len → place_of l i ≢ at) → waiting l (set room at x) ≡ waiting l room
+  waiting_set l room at x apart =
       let n = length-set room at x in
-      ⊎_elim (λ short. waiting-short l (set room at x) (omega arith) ∙ sym (waiting-short l room short))
-      (λ fits. waiting-same l l room (set room at x) fits (omega arith) refl (λ i d lt. get_or-set_other room at (place_of l i) x d (apart i lt)))
+      ⊎_elim (λ short. waiting_short l (set room at x) (omega arith) ∙ sym (waiting_short l room short))
+      (λ fits. waiting_same l l room (set room at x) fits (omega arith) refl (λ i d lt. get_or-set_other room at (place_of l i) x d (apart i lt)))
       (cases_lt (length room) l.size)
 
   -- a write past the line's last place
-  pub waiting-set-past : (l : Line) (room : List X) (at : ℕ) (x : X) → l.size ≤ at → waiting l (set room at x) ≡ waiting l room
-  waiting-set-past l room at x past =
-      waiting-set l room at x (λ i lt same. omega (arith, place_within l i (omega arith)))
+  pub waiting_set_past : (l : Line) (room : List X) (at : ℕ) (x : X) → l.size ≤ at → waiting l (set room at x) ≡ waiting l room
+  waiting_set_past l room at x past =
+      waiting_set l room at x (λ i lt same. omega (arith, place_within l i (omega arith)))
 
   -- the n oldest have left
-  pub waiting-advanced : (l l' : Line) (room : List X) (n : ℕ) → Advanced l n l' → n ≤ l.len → waiting l' room ≡ drop n (waiting l room)
-  waiting-advanced l l' room n a le =
+  pub waiting_advanced : (l l' : Line) (room : List X) (n : ℕ) → Advanced l n l' → n ≤ l.len → waiting l' room ≡ drop n (waiting l room)
+  waiting_advanced l l' room n a le =
       let size : l'.size ≡ l.size = a.size in
       let len : l'.len ≡ l.len - n = a.len in
       let old = waiting l room in
-      ⊎_elim (λ short. waiting-short l' room (omega arith) ∙ sym (nil_from_length (drop n old) (omega (arith, length-drop n old, length-waiting l room, counted_short l (length room) short))))
+      ⊎_elim (λ short. waiting_short l' room (omega arith) ∙ sym (nil_from_length (drop n old) (omega (arith, length-drop n old, length_waiting l room, counted_short l (length room) short))))
       (λ fits.
-      let m = length-waiting-fits l room fits in
-      let m' = length-waiting-fits l' room (omega arith) in
+      let m = length_waiting_fits l room fits in
+      let m' = length_waiting_fits l' room (omega arith) in
       same_lists (waiting l' room) (drop n old) (omega (arith, length-drop n old))
       (λ k d lt.
-      getD-waiting l' room k d (omega arith) (omega arith)
+      get_d_waiting l' room k d (omega arith) (omega arith)
       ∙ ap (λ p. get_or room p d) (place_advanced l l' n k a (omega arith))
-      ∙ sym (get_or-drop n old k d ∙ getD-waiting l room (n + k) d fits (omega arith))))
+      ∙ sym (get_or-drop n old k d ∙ get_d_waiting l room (n + k) d fits (omega arith))))
       (cases_lt (length room) l.size)
 
-  pub waiting-skipped : (l l' : Line) (room : List X) (n : ℕ) → Advanced l (min n l.len) l' → waiting l' room ≡ drop n (waiting l room)
-  waiting-skipped l l' room n a =
+  pub waiting_skipped : (l l' : Line) (room : List X) (n : ℕ) → Advanced l (min n l.len) l' → waiting l' room ≡ drop n (waiting l room)
+  waiting_skipped l l' room n a =
       let old = waiting l room in
-      waiting-advanced l l' room (min n l.len) a (omega arith)
-      ∙ ⊎_elim (λ (more : l.len < n). drop_all (min n l.len) old (omega (arith, length-waiting-le l room)) ∙ sym (drop_all n old (omega (arith, length-waiting-le l room))))
+      waiting_advanced l l' room (min n l.len) a (omega arith)
+      ∙ ⊎_elim (λ (more : l.len < n). drop_all (min n l.len) old (omega (arith, length_waiting_le l room)) ∙ sym (drop_all n old (omega (arith, length_waiting_le l room))))
       (λ (few : n ≤ l.len). ap (λ k. drop k old) (omega arith))
       (cases_lt l.len n)
 
   -- one more pop
-  pub drop-again : (k : ℕ) (xs ys : List X) → ys ≡ drop k xs → drop 1 ys ≡ drop (k + 1) xs
-  drop-again k xs ys e = ap (drop 1) e ∙ drop-drop 1 k xs
+  pub drop_again : (k : ℕ) (xs ys : List X) → ys ≡ drop k xs → drop 1 ys ≡ drop (k + 1) xs
+  drop_again k xs ys e = ap (drop 1) e ∙ drop-drop 1 k xs
 
   -- one more at the end
   pub entered : (l l' : Line) (room : List X) (x : X) (at : ℕ) → l.len < l.size → l.size ≤ length room → at ≡ place_of l l.len → l'.head ≡ l.head → l'.len ≡ l.len + 1 → l'.size ≡ l.size → Entered l room x l' (set room at x)
@@ -196,13 +196,13 @@ module _ {X : Type 0} where
       let room' = set room at x in
       let within = place_within l l.len (omega arith) in
       let apart : (i : ℕ) → i < l.len → place_of l i ≢ place_of l l.len = λ i lt. place_apart l i l.len lt few in
-      let m = length-waiting-fits l room fits in
+      let m = length_waiting_fits l room fits in
       let fits' : l'.size ≤ length room' = omega (arith, length-set room at x) in
-      let m' = length-waiting-fits l' room' fits' in
+      let m' = length_waiting_fits l' room' fits' in
       let older : (k : ℕ) (d : X) → k < l.len → get_or room' (place_of l k) d ≡ get_or (waiting l room ++ x ∷ []) k d =
       λ k d lt.
       get_or-set_other room at (place_of l k) x d (λ e. apart k lt (e ∙ is))
-      ∙ sym (get_or_append_left (waiting l room) (x ∷ []) d k (omega arith) ∙ getD-waiting l room k d fits lt) in
+      ∙ sym (get_or_append_left (waiting l room) (x ∷ []) d k (omega arith) ∙ get_d_waiting l room k d fits lt) in
       let last : (k : ℕ) (d : X) → k ≡ l.len → get_or room' (place_of l k) d ≡ get_or (waiting l room ++ x ∷ []) k d =
       λ k d here.
       ap (λ j. get_or room' j d) (ap (place_of l) here ∙ sym is)
@@ -212,7 +212,7 @@ module _ {X : Type 0} where
         joins =
             same_lists (waiting l' room') (waiting l room ++ x ∷ []) (omega (arith, length_push (waiting l room) x))
             (λ k d lt.
-            getD-waiting l' room' k d fits' (omega arith)
+            get_d_waiting l' room' k d fits' (omega arith)
             ∙ ap (λ p. get_or room' p d) (place_same l l' k head size)
             ∙ ⊎_elim (older k d) (λ past. last k d (omega arith)) (cases_lt k l.len));
         written = ap (λ k. set room k x) is;
@@ -231,8 +231,8 @@ module _ {X : Type 0} where
   got (y ∷ ys) zero x is d = cc
   got (y ∷ ys) (suc i) x is d = got ys i x is d
 
-  pub got-within : (xs : List X) (i : ℕ) (x : X) → Some x ≡ slice_get xs i → i < length xs
-  got-within xs i x is =
+  pub got_within : (xs : List X) (i : ℕ) (x : X) → Some x ≡ slice_get xs i → i < length xs
+  got_within xs i x is =
       ⊎_elim (λ low. low) (λ past. let z : ◌≡◌ {A = ℕ} 0 1 = cc (is, slice_get_past xs i past) in absurd (omega arith)) (cases_lt i (length xs))
 
   none_within : (xs : List X) (i : ℕ) → None ≡ slice_get xs i → i < length xs → ⊥
@@ -241,26 +241,26 @@ module _ {X : Type 0} where
   none_within (y ∷ ys) (suc i) is lt = none_within ys i is (omega arith)
 
   -- past the last there is none
-  pub none-past : (xs : List X) (i : ℕ) → None ≡ slice_get xs i → length xs ≤ i
-  none-past xs i is =
+  pub none_past : (xs : List X) (i : ℕ) → None ≡ slice_get xs i → length xs ≤ i
+  none_past xs i is =
       ⊎_elim (λ low. absurd (none_within xs i is low)) (λ past. past) (cases_lt i (length xs))
 
   -- one step from the oldest to the newest
   pub walk_more : (xs : List X) (i : ℕ) (x : X) → Some x ≡ slice_get xs i → take (i + 1) xs ≡ take i xs ++ x ∷ []
   walk_more xs i x is =
-      take_more xs i x (got-within xs i x is) ∙ ap (λ y. take i xs ++ y ∷ []) (sym (got xs i x is x))
+      take_more xs i x (got_within xs i x is) ∙ ap (λ y. take i xs ++ y ∷ []) (sym (got xs i x is x))
 
   -- and where there is none
   pub walk_none : (xs : List X) (i : ℕ) → None ≡ slice_get xs i → take (i + 1) xs ≡ take i xs
   walk_none xs i is =
-      let past = none-past xs i is in
+      let past = none_past xs i is in
       take_all (i + 1) xs (omega arith) ∙ sym (take_all i xs past)
 
   -- one step from the newest to the oldest
-  pub walk-back : (xs : List X) (i : ℕ) (x : X) → Some x ≡ slice_get xs i → drop i xs ≡ x ∷ drop (i + 1) xs
-  walk-back xs i x is =
-      drop_more xs i x (got-within xs i x is) ∙ ap (λ y. y ∷ drop (i + 1) xs) (sym (got xs i x is x))
+  pub walk_back : (xs : List X) (i : ℕ) (x : X) → Some x ≡ slice_get xs i → drop i xs ≡ x ∷ drop (i + 1) xs
+  walk_back xs i x is =
+      drop_more xs i x (got_within xs i x is) ∙ ap (λ y. y ∷ drop (i + 1) xs) (sym (got xs i x is x))
 
   -- where the i-th is there, more than i wait
-  pub some-waits : (l : Line) (room : List X) (i : ℕ) (x : X) → Some x ≡ slice_get (waiting l room) i → i + 1 ≤ l.len
-  some-waits l room i x is = omega (arith, got-within (waiting l room) i x is, length-waiting-le l room)
+  pub some_waits : (l : Line) (room : List X) (i : ℕ) (x : X) → Some x ≡ slice_get (waiting l room) i → i + 1 ≤ l.len
+  some_waits l room i x is = omega (arith, got_within (waiting l room) i x is, length_waiting_le l room)

@@ -25,22 +25,22 @@ Leads es key ms delivered (Some found) =
     × Tops es key ms delivered found.moment
 
 module _ (key : Key) (ms : List ℕ) (delivered : ℕ) where
-  pub leads-push : (es : List Entry) (best : Option Found) (x : Entry) (newest : Option ℕ) → Leads es key ms delivered best → Newest (answers key delivered x) ms newest → Leads (es ++ x ∷ []) key ms delivered (better best (length es) newest)
-  leads-push es None x None h k = λ e a m b t.
+  pub leads_push : (es : List Entry) (best : Option Found) (x : Entry) (newest : Option ℕ) → Leads es key ms delivered best → Newest (answers key delivered x) ms newest → Leads (es ++ x ∷ []) key ms delivered (better best (length es) newest)
+  leads_push es None x None h k = λ e a m b t.
       ⊎_elim (λ l. h e l m b t) (λ is. k m b (ap (λ (y : Entry). answers key delivered y m) (sym is) ∙ t)) (among_push e es x a)
-  leads-push es (Some found) x None h k = (
+  leads_push es (Some found) x None h k = (
     omega (arith, length_push es x),
     h.1,
     ap (λ (y : Entry). answers key delivered y found.moment) (get_or_append_left es (x ∷ []) blank_entry found.place h.0) ∙ h.2,
     λ e a m b t. ⊎_elim (λ l. h.3 e l m b t) (λ is. absurd (k m b (ap (λ (y : Entry). answers key delivered y m) (sym is) ∙ t))) (among_push e es x a),
   )
-  leads-push es None x (Some moment) h k = (
+  leads_push es None x (Some moment) h k = (
     omega (arith, length_push es x),
     k.0,
     ap (λ (y : Entry). answers key delivered y moment) (get_or_push es x blank_entry (length es) refl) ∙ k.1,
     λ e a m b t. ⊎_elim (λ l. absurd (h e l m b t)) (λ is. k.2 m b (ap (λ (y : Entry). answers key delivered y m) (sym is) ∙ t)) (among_push e es x a),
   )
-  leads-push es (Some found) x (Some moment) h k =
+  leads_push es (Some found) x (Some moment) h k =
       cond_both (ltb found.moment moment) (Some (record { place = length es; moment = moment })) (Some found)
       (λ (best : Option Found). Leads (es ++ x ∷ []) key ms delivered best)
       (λ won. let below = ltb-true found.moment moment won in (
@@ -56,18 +56,18 @@ module _ (key : Key) (ms : List ℕ) (delivered : ℕ) where
         λ e a m b t. ⊎_elim (λ l. h.3 e l m b t) (λ is. let le = k.2 m b (ap (λ (y : Entry). answers key delivered y m) (sym is) ∙ t) in omega arith) (among_push e es x a),
       ))
 
-  pub leads-more : (xs : List Entry) (n i : ℕ) (best : Option Found) (x : Entry) (newest : Option ℕ) → i < length (take n xs) → x ≡ get_or xs i blank_entry → Leads (take i (take n xs)) key ms delivered best → Newest (answers key delivered x) ms newest → Leads (take (i + 1) (take n xs)) key ms delivered (better best i newest)
-  leads-more xs n i best x newest h is so k =
+  pub leads_more : (xs : List Entry) (n i : ℕ) (best : Option Found) (x : Entry) (newest : Option ℕ) → i < length (take n xs) → x ≡ get_or xs i blank_entry → Leads (take i (take n xs)) key ms delivered best → Newest (answers key delivered x) ms newest → Leads (take (i + 1) (take n xs)) key ms delivered (better best i newest)
+  leads_more xs n i best x newest h is so k =
       let es = take n xs in
       let below : i < n = omega (arith, length-take n xs) in
       let here : length (take i es) ≡ i = length-take-le i es (omega arith) in
       let at : take i es ++ x ∷ [] ≡ take (i + 1) es = ap (λ y. take i es ++ y ∷ []) (is ∙ sym (get_or-take n xs i blank_entry below)) ∙ sym (take_more es i blank_entry h) in
       subst (λ l. Leads l key ms delivered (better best i newest)) at
-      (subst (λ (j : ℕ). Leads (take i es ++ x ∷ []) key ms delivered (better best j newest)) here (leads-push (take i es) best x newest so k))
+      (subst (λ (j : ℕ). Leads (take i es ++ x ∷ []) key ms delivered (better best j newest)) here (leads_push (take i es) best x newest so k))
 
-  pub leads-all : (es : List Entry) (i : ℕ) (best b : Option Found) → length es ≤ i → best ≡ b → Leads (take i es) key ms delivered best → Leads es key ms delivered b
-  leads-all es i best b past is so =
+  pub leads_all : (es : List Entry) (i : ℕ) (best b : Option Found) → length es ≤ i → best ≡ b → Leads (take i es) key ms delivered best → Leads es key ms delivered b
+  leads_all es i best b past is so =
       subst (λ (o : Option Found). Leads es key ms delivered o) is (subst (λ l. Leads l key ms delivered best) (take_all i es past) so)
 
-  pub leads-some : (es : List Entry) (found : Found) → Leads es key ms delivered (Some found) → Finds es key ms delivered (Some found.place)
-  leads-some es found h = (h.0, (among_get_d es found.place blank_entry h.0, (found.moment, h.1, h.2, h.3)))
+  pub leads_some : (es : List Entry) (found : Found) → Leads es key ms delivered (Some found) → Finds es key ms delivered (Some found.place)
+  leads_some es found h = (h.0, (among_get_d es found.place blank_entry h.0, (found.moment, h.1, h.2, h.3)))

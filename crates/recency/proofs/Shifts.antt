@@ -21,8 +21,8 @@ module _ {X : Type 0} (xs : List X) (h : X) where
   front_long : (i : ℕ) → i < length xs → length (take i (h ∷ xs)) ≡ i
   front_long i k = length-take-le i (h ∷ xs) (omega arith)
 
-  pub shift-more : (ys : List X) (carry : X) (i : ℕ) (d : X) → i < length xs → ys ≡ take i (h ∷ xs) ++ drop i xs → carry ≡ get_or (h ∷ xs) i d → set ys i carry ≡ take (i + 1) (h ∷ xs) ++ drop (i + 1) xs
-  shift-more ys carry i d k e is =
+  pub shift_more : (ys : List X) (carry : X) (i : ℕ) (d : X) → i < length xs → ys ≡ take i (h ∷ xs) ++ drop i xs → carry ≡ get_or (h ∷ xs) i d → set ys i carry ≡ take (i + 1) (h ∷ xs) ++ drop (i + 1) xs
+  shift_more ys carry i d k e is =
       let inside : i < length (h ∷ xs) = omega arith in
       ap (λ l. set l i carry) (split_at ys i d k e)
       ∙ set_at (take i (h ∷ xs)) (get_or xs i d) (drop (i + 1) xs) carry i (front_long i k)
@@ -30,8 +30,8 @@ module _ {X : Type 0} (xs : List X) (h : X) where
       ∙ ap (λ x. (take i (h ∷ xs) ++ x ∷ []) ++ drop (i + 1) xs) is
       ∙ ap (λ l. l ++ drop (i + 1) xs) (sym (take_more (h ∷ xs) i d inside))
 
-  pub shift-carry : (ys : List X) (i : ℕ) (d : X) → i < length xs → ys ≡ take i (h ∷ xs) ++ drop i xs → get_or ys i d ≡ get_or (h ∷ xs) (i + 1) d
-  shift-carry ys i d k e =
+  pub shift_carry : (ys : List X) (i : ℕ) (d : X) → i < length xs → ys ≡ take i (h ∷ xs) ++ drop i xs → get_or ys i d ≡ get_or (h ∷ xs) (i + 1) d
+  shift_carry ys i d k e =
       ap (λ l. get_or l i d) (split_at ys i d k e)
       ∙ get_or_at (take i (h ∷ xs)) (get_or xs i d) (drop (i + 1) xs) d i (front_long i k)
       ∙ ap (λ n. get_or (h ∷ xs) n d) (sym (add-one i))
@@ -50,7 +50,7 @@ raised h xs ys zs carry d place i n m k at same e is put =
     let moved : ys ≡ take place (h ∷ xs) ++ drop place xs = e ∙ ap (λ j. take j (h ∷ xs) ++ drop j xs) at in
     let last : carry ≡ get_or (h ∷ xs) place d = is ∙ ap (λ j. get_or (h ∷ xs) j d) at in
     ap (λ j. take j zs) same
-    ∙ ap (take n) (put ∙ shift-more xs h ys carry place d inside moved last ∙ ap (λ j. take j (h ∷ xs) ++ drop j xs) (add-one place))
+    ∙ ap (take n) (put ∙ shift_more xs h ys carry place d inside moved last ∙ ap (λ j. take j (h ∷ xs) ++ drop j xs) (add-one place))
     ∙ take_raise h xs place n k
     ∙ ap (λ j. h ∷ (take place (take n xs) ++ drop j (take n xs))) (sym (add-one place))
 
@@ -74,15 +74,15 @@ module _ {X : Type 0} (test : X → Bool) (new : X) (xs ys : List X) (carry : X)
   later_same : drop (i + 1) ys ≡ drop (i + 1) xs
   later_same = sym (drop-drop 1 i ys) ∙ ap (drop 1) so.behind ∙ drop-drop 1 i xs
 
-  pub pushing-here : get_or ys i d ≡ get_or xs i d
-  pushing-here =
+  pub pushing_here : get_or ys i d ≡ get_or xs i d
+  pushing_here =
       let one = get_or-drop i ys 0 d in
       let two = get_or-drop i xs 0 d in
       ap (λ j. get_or ys j d) (sym (add-zero i)) ∙ sym one ∙ ap (λ l. get_or l 0 d) so.behind ∙ two ∙ ap (λ j. get_or xs j d) (add-zero i)
 
-  pub pushing-keeps : (x : X) → x ≡ get_or ys i d → test x ≡ true → Pushing test new xs (set ys k carry) x (k + 1) (i + 1)
-  pushing-keeps x is pass =
-      let here : x ≡ get_or xs i d = is ∙ pushing-here in
+  pub pushing_keeps : (x : X) → x ≡ get_or ys i d → test x ≡ true → Pushing test new xs (set ys k carry) x (k + 1) (i + 1)
+  pushing_keeps x is pass =
+      let here : x ≡ get_or xs i d = is ∙ pushing_here in
       let inside : k < length ys = omega (arith, so.within, so.long) in
       let kept : filter test (take (i + 1) xs) ≡ filter test (take i xs) ++ x ∷ [] =
       filter_more test xs i d h
@@ -95,9 +95,9 @@ module _ {X : Type 0} (test : X → Bool) (new : X) (xs ys : List X) (carry : X)
         long = length-set ys k carry ∙ so.long;
       }
 
-  pub pushing-leaves : (x : X) → x ≡ get_or ys i d → test x ≡ false → Pushing test new xs ys carry k (i + 1)
-  pushing-leaves x is fail =
-      let here : x ≡ get_or xs i d = is ∙ pushing-here in
+  pub pushing_leaves : (x : X) → x ≡ get_or ys i d → test x ≡ false → Pushing test new xs ys carry k (i + 1)
+  pushing_leaves x is fail =
+      let here : x ≡ get_or xs i d = is ∙ pushing_here in
       let kept : filter test (take (i + 1) xs) ≡ filter test (take i xs) =
       filter_more test xs i d h
       ∙ ap (λ y. filter test (take i xs) ++ cond (test y) (y ∷ []) []) (sym here)

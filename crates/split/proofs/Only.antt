@@ -29,9 +29,9 @@ module _ (moment delivered : ℕ) where
       let here : covers delivered e moment ≡ true = ap (λ (m : ℕ). covers delivered e m) (sym at) ∙ ap (λ (x : Entry). covers delivered x h.1.0) (sym is) ∙ covered in
       ap Some is ∙ sym (cond-true (covers delivered e moment) (Some e) None here)
 
-  no-entry : (key : Key) (fs : List Entry) (r : Option Entry) → fs ≡ [] → Looks fs key (moment ∷ []) delivered r → r ≡ None
-  no-entry key fs None is h = refl
-  no-entry key fs (Some hit) is h = absurd (subst (Among hit) is h.0)
+  no_entry : (key : Key) (fs : List Entry) (r : Option Entry) → fs ≡ [] → Looks fs key (moment ∷ []) delivered r → r ≡ None
+  no_entry key fs None is h = refl
+  no_entry key fs (Some hit) is h = absurd (subst (Among hit) is h.0)
 
   pub only_seen : (key : Key) (reading : Reading) (interval : Interval) (tags : List Tag) (es fs : List Entry) (r : Option Entry) → es ≡ [] → Enters es (accepted key reading interval tags) fs → Looks fs key (moment ∷ []) delivered r → r ≡ seen delivered moment (accepted key reading interval tags)
   only_seen key reading interval tags es fs r none =
@@ -39,4 +39,4 @@ module _ (moment delivered : ℕ) where
       cond_both (accepts key interval tags) (Some e) None
       (λ (new : Option Entry). Enters es new fs → Looks fs key (moment ∷ []) delivered r → r ≡ seen delivered moment new)
       (λ _ ins h. one_entry e fs r (subst (λ (l : List Entry). Inserts l e fs) none ins) h)
-      (λ _ is h. no-entry key fs r (is ∙ none) h)
+      (λ _ is h. no_entry key fs r (is ∙ none) h)

@@ -70,19 +70,19 @@ module _ {side : Key → Bool} {gs vs hs ws : List Entry} (part : Part side gs v
   }
 
   -- an entry that answers has the key, and is on its side
-  answers-side : (key : Key) (delivered : ℕ) (e : Entry) (m : ℕ) → side key ≡ true → answers key delivered e m ≡ true → side e.key ≡ true
-  answers-side key delivered e m on t = sym (part.alike key e.key (and_parts (is_key key e.key) (covers delivered e m) t).0) ∙ on
+  answers_side : (key : Key) (delivered : ℕ) (e : Entry) (m : ℕ) → side key ≡ true → answers key delivered e m ≡ true → side e.key ≡ true
+  answers_side key delivered e m on t = sym (part.alike key e.key (and_parts (is_key key e.key) (covers delivered e m) t).0) ∙ on
 
-  among-side : (key : Key) (delivered : ℕ) (e : Entry) (m : ℕ) → side key ≡ true → answers key delivered e m ≡ true → Among e vs → Among e gs
-  among-side key delivered e m on t a =
-      ⊎_elim (λ l. l.0) (λ r. absurd (both_ways (side e.key) r.1 (answers-side key delivered e m on t))) (part.from e a)
+  among_side : (key : Key) (delivered : ℕ) (e : Entry) (m : ℕ) → side key ≡ true → answers key delivered e m ≡ true → Among e vs → Among e gs
+  among_side key delivered e m on t a =
+      ⊎_elim (λ l. l.0) (λ r. absurd (both_ways (side e.key) r.1 (answers_side key delivered e m on t))) (part.from e a)
 
-  pub part-looks : (key : Key) (ms : List ℕ) (delivered : ℕ) (r : Option Entry) → side key ≡ true → Looks gs key ms delivered r → Looks vs key ms delivered r
-  part-looks key ms delivered None on h = λ e a m b t. h e (among-side key delivered e m on t a) m b t
-  part-looks key ms delivered (Some hit) on h =
+  pub part_looks : (key : Key) (ms : List ℕ) (delivered : ℕ) (r : Option Entry) → side key ≡ true → Looks gs key ms delivered r → Looks vs key ms delivered r
+  part_looks key ms delivered None on h = λ e a m b t. h e (among_side key delivered e m on t a) m b t
+  part_looks key ms delivered (Some hit) on h =
       let newest = h.1.0 in (
-        part.into hit h.0 (answers-side key delivered hit newest on h.1.2),
-        (newest, h.1.1, h.1.2, λ e a m b t. h.1.3 e (among-side key delivered e m on t a) m b t),
+        part.into hit h.0 (answers_side key delivered hit newest on h.1.2),
+        (newest, h.1.1, h.1.2, λ e a m b t. h.1.3 e (among_side key delivered e m on t a) m b t),
       )
 
   part_stays : (new e : Entry) → side new.key ≡ true → side e.key ≡ false → gives_way new e ≡ false
@@ -92,8 +92,8 @@ module _ {side : Key → Bool} {gs vs hs ws : List Entry} (part : Part side gs v
       (λ stays. stays)
       (cases_Bool (gives_way new e))
 
-  pub part-inserts : (new : Entry) → side new.key ≡ true → Inserts gs new hs → Inserts vs new ws
-  part-inserts new on ins = record {
+  pub part_inserts : (new : Entry) → side new.key ≡ true → Inserts gs new hs → Inserts vs new ws
+  part_inserts new on ins = record {
     added = part.into_after new ins.added on;
     old = λ e a. ⊎_elim
         (λ l. ⊎_elim (λ is. inl is) (λ was. inr (part.into e was.0 l.1, was.1)) (ins.old e l.0))
@@ -106,11 +106,11 @@ module _ {side : Key → Bool} {gs vs hs ws : List Entry} (part : Part side gs v
         (part.from e a);
   }
 
-  pub part-enters : (key : Key) (reading : Reading) (interval : Interval) (tags : List Tag) → side key ≡ true → (hs ≡ gs → ws ≡ vs) → Enters gs (accepted key reading interval tags) hs → Enters vs (accepted key reading interval tags) ws
-  part-enters key reading interval tags on unchanged =
+  pub part_enters : (key : Key) (reading : Reading) (interval : Interval) (tags : List Tag) → side key ≡ true → (hs ≡ gs → ws ≡ vs) → Enters gs (accepted key reading interval tags) hs → Enters vs (accepted key reading interval tags) ws
+  part_enters key reading interval tags on unchanged =
       cond_both (accepts key interval tags) (Some (record { key = key; reading = reading; interval = interval; tags = packed tags })) None
       (λ (new : Option Entry). Enters gs new hs → Enters vs new ws)
-      (λ _ ins. part-inserts _ on ins)
+      (λ _ ins. part_inserts _ on ins)
       (λ _ is. unchanged is)
 
 first_closed : (tag : Tag) (n : ℕ) (e : Entry) → goes_first (closed tag n e).key ≡ goes_first e.key

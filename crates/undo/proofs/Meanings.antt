@@ -18,7 +18,7 @@ use Rattle.database.proofs.Sets.{least_among, least_below}
 use Rattle.database.proofs.Rows.{keys_in, few_keys}
 use Rattle.database.proofs.Turns.{every_among, every_append, every_kept}
 use Rattle.line.specs.Rings.{waiting}
-use Rattle.line.proofs.Rings.{length-waiting-le, length-waiting-fits, waiting_none}
+use Rattle.line.proofs.Rings.{length_waiting_le, length_waiting_fits, waiting_none}
 use Rattle.undo.specs.declared.entry.Present.{Present}
 use Rattle.undo.specs.declared.entry.Entry.{Entry}
 use Rattle.undo.specs.declared.ledger.Ledger.{Ledger}
@@ -40,7 +40,7 @@ good s =
     record {
       size = s.size;
       rows = omega (arith, s.rows, s.ledger.present.ok.0);
-      places = omega (arith, length-waiting-le l s.ledger.journal.now, l.few);
+      places = omega (arith, length_waiting_le l s.ledger.journal.now, l.few);
       moment = s.moment;
       few = omega (arith, s.pins.few, s.pins.moments.ok.0);
       once = s.pins.once;
@@ -196,7 +196,7 @@ pub needed_part : (s : UndoStore) (low n : ℕ) (part : List Entry) → low ≡ 
     → part ≡ drop (s.ledger.line.len - n) (waiting s.ledger.line s.ledger.journal.now) → part ≡ needed_of (store_of s)
 needed_part s low n part l is e =
     let es = waiting s.ledger.line s.ledger.journal.now in
-    let few : length es ≡ s.ledger.line.len = length-waiting-fits s.ledger.line s.ledger.journal.now s.fits in
+    let few : length es ≡ s.ledger.line.len = length_waiting_fits s.ledger.line s.ledger.journal.now s.fits in
     let gone : s.ledger.line.len - n ≡ length es - length (later low es) = omega arith in
     e ∙ ap (λ k. drop k es) gone ∙ newest low es s.ascends ∙ ap (λ m. later m es) l
 

@@ -11,7 +11,7 @@ use Rattle.database.specs.declared.scan.Scan.{Scan}
 use Rattle.database.specs.Rows.{matches}
 use Rattle.database.specs.Scans.{summary}
 use Rattle.database.proofs.Turns.{kept_push, turn_push, read_push, pass_push}
-use Rattle.line.proofs.Rings.{walk_more, walk_none, got-within}
+use Rattle.line.proofs.Rings.{walk_more, walk_none, got_within}
 use Rattle.undo.specs.declared.entry.Held.{Held}
 use Rattle.undo.specs.declared.entry.Present.{Present}
 use Rattle.undo.specs.declared.entry.Entry.{Entry}
@@ -118,7 +118,7 @@ former_push floor m q vs id commit (Some held) few = found_push floor m q vs _ f
 pub entry_more : (floor m : ℕ) (q : Query) (ps : List Present) (es : List Entry) (i n : ℕ) (e : Entry) (scan next : Scan) → Some e ≡ slice_get es i → length es ≤ n → length ps + n ≤ 4294967295
     → scan ≡ found floor m q (versions ps (take i es)) → next ≡ scanned_all floor m q (replaced_by e) scan → next ≡ found floor m q (versions ps (take (i + 1) es))
 entry_more floor m q ps es i n e scan next at most few inv is =
-    let h = got-within es i e at in
+    let h = got_within es i e at in
     let a = length-append (map current ps) (flat_map replaced_by (take i es)) in
     let b = length-map ps current in
     let c = joined_few (take i es) in

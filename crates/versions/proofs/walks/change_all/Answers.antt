@@ -11,9 +11,9 @@ loop-change-preserved c =
     let changes = c.args.changes.now in
     let moment = c.args.moment in
     let F : List Change → List Version = λ cs. changed_by_all moment cs (vec_items c.loop-change.versions) in (
-      ap (changed_by_all moment (drop (i + 1) changes)) c.change-one.ensures.items
+      ap (changed_by_all moment (drop (i + 1) changes)) c.change_one.ensures.items
           ∙ sym (at_drop_more F changes i _ c.loop-change-test.true) ∙ c.loop-change.invariant.0,
-      c.change-one.ensures.capacity ∙ c.loop-change.invariant.1,
+      c.change_one.ensures.capacity ∙ c.loop-change.invariant.1,
       search rules,
     )
 

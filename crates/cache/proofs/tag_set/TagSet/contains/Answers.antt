@@ -5,15 +5,15 @@ use Rattle.cache.specs.TagSets.{tags_of, no_tag, has_tag}
 use Rattle.cache.proofs.Walks.{some_hit, some_miss}
 use Rattle.cache.proofs.tag_set.TagSet.contains.Goals as goal
 
-pub returns-then-is-tag : goal.returns-then-is-tag
-returns-then-is-tag c =
+pub returns-then-is_tag : goal.returns-then-is_tag
+returns-then-is_tag c =
     let k : c.loop-i.i < length (tags_of c.args.self) = omega arith in
-    some_hit (is_tag c.args.tag) c.args.self.tags (min c.args.self.count 8) c.loop-i.i no_tag k c.if-is-tag.ensures ∙ c.loop-i.invariant
+    some_hit (is_tag c.args.tag) c.args.self.tags (min c.args.self.count 8) c.loop-i.i no_tag k c.if-is_tag.ensures ∙ c.loop-i.invariant
 
 pub loop-i-preserved : goal.loop-i-preserved
 loop-i-preserved c =
     let k : c.loop-i.i < length (tags_of c.args.self) = omega arith in
-    some_miss (is_tag c.args.tag) c.args.self.tags (min c.args.self.count 8) c.loop-i.i no_tag k c.if-is-tag.ensures ∙ c.loop-i.invariant
+    some_miss (is_tag c.args.tag) c.args.self.tags (min c.args.self.count 8) c.loop-i.i no_tag k c.if-is_tag.ensures ∙ c.loop-i.invariant
 
 pub returns : goal.returns
 returns c =

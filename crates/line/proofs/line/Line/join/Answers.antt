@@ -4,4 +4,4 @@ use Rattle.line.proofs.line.Line.join.Goals as goal
 
 pub returns : goal.returns
 returns g c =
-    entered c.args.self.now _ c.args.room.now c.args.x c.free-place-at.result c.requires.0 c.requires.1 c.free-place-at.ensures refl refl refl
+    entered c.args.self.now _ c.args.room.now c.args.x c.free_place-at.result c.requires.0 c.requires.1 c.free_place-at.ensures refl refl refl

@@ -1,9 +1,9 @@
 use Rattle.std.proofs.Common.{◌<◌, length, sym, refl, ap, ◌∙◌, arith, length-take}
 use Rattle.cache.specs.Entries.{blank_entry}
 use Rattle.recency.specs.Nodes.{places, stays}
-use Rattle.recency.proofs.Shifts.{pushing-keeps, pushing-leaves, pushing_all, pushing_is}
+use Rattle.recency.proofs.Shifts.{pushing_keeps, pushing_leaves, pushing_all, pushing_is}
 use Rattle.recency.proofs.node.Recency.push.Goals as goal
-use Rattle.recency.proofs.node.Recency.push.Goals.{then-stays-with, else-stays-with}
+use Rattle.recency.proofs.node.Recency.push.Goals.{then-stays_with, else-stays_with}
 
 pub loop-i-init : goal.loop-i-init
 loop-i-init c = record { front = refl; behind = refl; within = omega arith; long = refl }
@@ -14,21 +14,21 @@ at-old-requires c = omega (arith, length-take c.args.self.now.len (places c.args
 pub put-requires : goal.put-requires
 put-requires c = omega (arith, length-take c.args.self.now.len (places c.args.self.now), c.loop-i.invariant.long, c.loop-i.invariant.within)
 
-pub overflow-add-next : goal.overflow-add-next
-overflow-add-next c = omega (arith, c.loop-i.invariant.within)
+pub overflow_add-next : goal.overflow_add-next
+overflow_add-next c = omega (arith, c.loop-i.invariant.within)
 
 pub loop-i-preserved : goal.loop-i-preserved
 loop-i-preserved c =
     let xs = places c.args.self.now in
     let here : c.loop-i.i < length xs = omega (arith, length-take c.args.self.now.len xs) in
     let ys = places c.loop-i.self in
-    elim c.if-stays-with.branch [
-      | then-stays-with w ↦
+    elim c.if-stays_with.branch [
+      | then-stays_with w ↦
           pushing_is (stays c.args.new) c.args.new xs _ _ _ _ _ _ _ (ap places w.self-is ∙ w.put.ensures.places) w.carry-is w.next-is
-          (pushing-keeps (stays c.args.new) c.args.new xs ys c.loop-i.carry c.loop-i.next c.loop-i.i c.loop-i.invariant blank_entry here c.at-old.result c.at-old.ensures (sym w.if-stays-with.ensures))
-      | else-stays-with w ↦
+          (pushing_keeps (stays c.args.new) c.args.new xs ys c.loop-i.carry c.loop-i.next c.loop-i.i c.loop-i.invariant blank_entry here c.at-old.result c.at-old.ensures (sym w.if-stays_with.ensures))
+      | else-stays_with w ↦
           pushing_is (stays c.args.new) c.args.new xs _ _ _ _ _ _ _ (ap places w.self-is) w.carry-is w.next-is
-          (pushing-leaves (stays c.args.new) c.args.new xs ys c.loop-i.carry c.loop-i.next c.loop-i.i c.loop-i.invariant blank_entry here c.at-old.result c.at-old.ensures (sym w.if-stays-with.ensures))
+          (pushing_leaves (stays c.args.new) c.args.new xs ys c.loop-i.carry c.loop-i.next c.loop-i.i c.loop-i.invariant blank_entry here c.at-old.result c.at-old.ensures (sym w.if-stays_with.ensures))
     ]
 
 pub settle-requires : goal.settle-requires

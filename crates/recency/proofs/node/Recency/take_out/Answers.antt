@@ -1,7 +1,7 @@
 use Rattle.std.proofs.Common.{◌≡◌, ◌<◌, length, drop, sym, ap, ◌∙◌, arith, length-set, length-take, get_or-take}
 use Rattle.cache.specs.Entries.{blank_entry}
 use Rattle.recency.specs.Nodes.{places}
-use Rattle.recency.proofs.Shifts.{shift-more, shift-carry, raised}
+use Rattle.recency.proofs.Shifts.{shift_more, shift_carry, raised}
 use Rattle.recency.proofs.node.Recency.take_out.Goals as goal
 
 pub at-hit-requires : goal.at-hit-requires
@@ -19,8 +19,8 @@ loop-i-preserved c =
     let before : c.loop-i.i < length xs = omega (arith, length-take c.args.self.now.len xs) in (
       c.put.ensures.len ∙ c.loop-i.invariant.0,
       ap length c.put.ensures.places ∙ length-set (places c.loop-i.self) c.loop-i.i c.loop-i.carry ∙ c.loop-i.invariant.1,
-      c.put.ensures.places ∙ shift-more xs c.at-carry.result (places c.loop-i.self) c.loop-i.carry c.loop-i.i blank_entry before c.loop-i.invariant.2 c.loop-i.invariant.3,
-      c.at-old.ensures ∙ shift-carry xs c.at-carry.result (places c.loop-i.self) c.loop-i.i blank_entry before c.loop-i.invariant.2,
+      c.put.ensures.places ∙ shift_more xs c.at-carry.result (places c.loop-i.self) c.loop-i.carry c.loop-i.i blank_entry before c.loop-i.invariant.2 c.loop-i.invariant.3,
+      c.at-old.ensures ∙ shift_carry xs c.at-carry.result (places c.loop-i.self) c.loop-i.i blank_entry before c.loop-i.invariant.2,
     )
 
 pub put-requires-2 : goal.put-requires-2

@@ -9,7 +9,7 @@ use Rattle.recency.specs.Nodes.{places, outlasts, recent}
 use Rattle.recency.proofs.Orders.{drops_kept}
 use Rattle.recency.proofs.Shifts.{take_length}
 use Rattle.recency.proofs.node.RecencyCache.drop_ended.Goals as goal
-use Rattle.recency.proofs.node.RecencyCache.drop_ended.Goals.{then-is-lasting, else-is-lasting}
+use Rattle.recency.proofs.node.RecencyCache.drop_ended.Goals.{then-is_lasting, else-is_lasting}
 
 pub at-entry-requires : goal.at-entry-requires
 at-entry-requires c = omega (arith, length-take c.args.self.now.len (places c.args.self.now), c.loop-i.invariant.long)
@@ -17,8 +17,8 @@ at-entry-requires c = omega (arith, length-take c.args.self.now.len (places c.ar
 pub put-requires : goal.put-requires
 put-requires c = omega (arith, length-take c.args.self.now.len (places c.args.self.now), c.loop-i.invariant.long, c.loop-i.invariant.behind)
 
-pub overflow-add-next : goal.overflow-add-next
-overflow-add-next c = omega (arith, c.loop-i.invariant.behind)
+pub overflow_add-next : goal.overflow_add-next
+overflow_add-next c = omega (arith, c.loop-i.invariant.behind)
 
 -- the places and the next one, as a way left them
 kept_as : (moment : ℕ) (xs ys zs : List Entry) (k j i : ℕ) → zs ≡ ys → j ≡ k → FiltersInPlace (outlasts moment) xs ys k i → FiltersInPlace (outlasts moment) xs zs j i
@@ -30,9 +30,9 @@ loop-i-preserved c =
     let ys = places c.loop-i.self in
     let here : c.loop-i.i < length ys = omega (arith, length-take c.args.self.now.len (places c.args.self.now), c.loop-i.invariant.long) in
     let read : c.at-entry.result ≡ get_or ys c.loop-i.i c.at-entry.result = c.at-entry.ensures ∙ get_or_default ys c.loop-i.i blank_entry c.at-entry.result here in
-    elim c.if-is-lasting.branch [
-      | then-is-lasting w ↦ kept_as c.args.moment _ _ _ _ _ _ (ap places w.self-is ∙ w.put.ensures.places) w.next-is (FiltersInPlace-more_set c.loop-i.invariant here (sym w.if-is-lasting.ensures) read)
-      | else-is-lasting w ↦ kept_as c.args.moment _ _ _ _ _ _ (ap places w.self-is) w.next-is (FiltersInPlace-more_no c.loop-i.invariant here (sym w.if-is-lasting.ensures) read)
+    elim c.if-is_lasting.branch [
+      | then-is_lasting w ↦ kept_as c.args.moment _ _ _ _ _ _ (ap places w.self-is ∙ w.put.ensures.places) w.next-is (FiltersInPlace-more_set c.loop-i.invariant here (sym w.if-is_lasting.ensures) read)
+      | else-is_lasting w ↦ kept_as c.args.moment _ _ _ _ _ _ (ap places w.self-is) w.next-is (FiltersInPlace-more_no c.loop-i.invariant here (sym w.if-is_lasting.ensures) read)
     ]
 
 pub returns : goal.returns

@@ -1,35 +1,35 @@
 use Rattle.std.proofs.Common.{◌+◌, ◌≤◌, length, vec_items, vec_len, vec_capacity, sym, ap, ◌∙◌, arith, rules}
 use Rattle.database.specs.Writes.{refusal}
-use Rattle.line.proofs.Rings.{length-waiting-fits}
+use Rattle.line.proofs.Rings.{length_waiting_fits}
 use Rattle.undo.specs.Stores.{store_of, store_from}
 use Rattle.undo.proofs.Meanings.{good, no_refusal, needed_part, writes_left, writes_lasting, writes_mean}
 use Rattle.undo.proofs.calls.UndoStoreDatabase.write.Goals as goal
 
-pub change-all-requires : goal.change-all-requires
-change-all-requires c =
+pub change_all-requires : goal.change_all-requires
+change_all-requires c =
     let s = c.args.self.now in
     let l = c.keep.new.self in
     let part = needed_part s c.lowest-lowest.result c.needed-needed.result _ c.lowest-lowest.ensures c.needed-needed.ensures c.keep.ensures.entries in
     let room = no_refusal s.latest c.free.result c.args.changes.now (sym c.in-default.ensures) in
     let journal = ap length c.keep.ensures.journal in
     let fits : l.line.size ≤ length l.journal.now = omega (arith, c.keep.ensures.size, s.fits) in
-    let here = length-waiting-fits l.line l.journal.now fits in
+    let here = length_waiting_fits l.line l.journal.now fits in
     record {
       rows = omega (arith, ap vec_len c.keep.ensures.present, ap vec_capacity c.keep.ensures.present, s.room, s.ledger.present.ok.0, room.1, c.free.ensures);
       places = omega (arith, ap length part, room.1, c.free.ensures, c.keep.ensures.size);
       fits = fits;
     }
 
-pub invariant-of-self : goal.invariant-of-self
-invariant-of-self c =
+pub invariant_of-self : goal.invariant_of-self
+invariant_of-self c =
     let s = c.args.self.now in
-    let l = c.change-all.new.self in
+    let l = c.change_all.new.self in
     let cs = c.args.changes.now in
     let kept = c.keep.ensures.present in
-    let grown = c.change-all.ensures.grown in
+    let grown = c.change_all.ensures.grown in
     let part = needed_part s c.lowest-lowest.result c.needed-needed.result _ c.lowest-lowest.ensures c.needed-needed.ensures c.keep.ensures.entries in
     let room = no_refusal s.latest c.free.result cs (sym c.in-default.ensures) in
-    let to = writes_left s cs c.lowest-lowest.result c.keep.new.self l c.lowest-lowest.ensures part kept c.keep.ensures.size grown c.change-all.ensures.present c.change-all.ensures.entries in
+    let to = writes_left s cs c.lowest-lowest.result c.keep.new.self l c.lowest-lowest.ensures part kept c.keep.ensures.size grown c.change_all.ensures.present c.change_all.ensures.entries in
     let w = writes_lasting (store_of s) cs (store_from (s.latest + 1) c.lowest-lowest.result (vec_items s.pins.moments) l) to (good s) in (
       omega (arith, grown.size, c.keep.ensures.size, s.size),
       (
@@ -50,10 +50,10 @@ invariant-of-self c =
 pub returns : goal.returns
 returns c =
     let s = c.args.self.now in
-    let l = c.change-all.new.self in
+    let l = c.change_all.new.self in
     let cs = c.args.changes.now in
     let part = needed_part s c.lowest-lowest.result c.needed-needed.result _ c.lowest-lowest.ensures c.needed-needed.ensures c.keep.ensures.entries in
-    let to = writes_left s cs c.lowest-lowest.result c.keep.new.self l c.lowest-lowest.ensures part c.keep.ensures.present c.keep.ensures.size c.change-all.ensures.grown c.change-all.ensures.present c.change-all.ensures.entries in
+    let to = writes_left s cs c.lowest-lowest.result c.keep.new.self l c.lowest-lowest.ensures part c.keep.ensures.present c.keep.ensures.size c.change_all.ensures.grown c.change_all.ensures.present c.change_all.ensures.entries in
     record {
       means = (ap (λ free. refusal s.latest free cs) (sym c.free.ensures) ∙ sym c.in-default.ensures, writes_mean (store_of s) cs (store_from (s.latest + 1) c.lowest-lowest.result (vec_items s.pins.moments) l) to (good s));
       keeps = λ _. to;

@@ -4,13 +4,13 @@ use Rattle.undo.specs.Stores.{store_from, in_range}
 use Rattle.undo.proofs.Meanings.{made_empty, made_lasting, size_range, first_range}
 use Rattle.undo.proofs.store.UndoStore.new.Goals as goal
 
-pub invariant-of-result : goal.invariant-of-result
-invariant-of-result c =
+pub invariant_of-result : goal.invariant_of-result
+invariant_of-result c =
     let first = c.args.first in
-    let l : Ledger = record { present = c.in-Ok-with-capacity.present; journal = c.args.journal; line = c.in-Some.line } in
+    let l : Ledger = record { present = c.in-Ok-with_capacity.present; journal = c.args.journal; line = c.in-Some.line } in
     let size = length c.args.journal.now in
     let line = c.in-Some.ensures in
-    let room = c.in-Ok-with-capacity.ensures.made in
+    let room = c.in-Ok-with_capacity.ensures.made in
     let pins = vec_items c.in-Ok.pins.moments in
     let to = made_empty l pins size first c.in-Ok.ensures room.0 line.2 line.0 in
     let w = made_lasting (store_from first first pins l) size first to in
@@ -34,8 +34,8 @@ invariant-of-result c =
 pub returns : goal.returns
 returns c =
     let first = c.args.first in
-    let l : Ledger = record { present = c.in-Ok-with-capacity.present; journal = c.args.journal; line = c.in-Some.line } in
+    let l : Ledger = record { present = c.in-Ok-with_capacity.present; journal = c.args.journal; line = c.in-Some.line } in
     let size = length c.args.journal.now in
     let line = c.in-Some.ensures in
     let range : in_range size first ≡ true = search rules in
-    (range, made_empty l (vec_items c.in-Ok.pins.moments) size first c.in-Ok.ensures c.in-Ok-with-capacity.ensures.made.0 line.2 line.0)
+    (range, made_empty l (vec_items c.in-Ok.pins.moments) size first c.in-Ok.ensures c.in-Ok-with_capacity.ensures.made.0 line.2 line.0)

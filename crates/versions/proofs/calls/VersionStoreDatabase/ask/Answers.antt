@@ -12,8 +12,8 @@ returns c =
     let s = c.args.self.now in
     let m = c.args.moment in
     let q = c.args.query in
-    let is : c.answer-of.result ≡ answer_at (store_of s) m q =
-    c.answer-of.ensures ∙ ap (scan_answer s.latest q) (c.scan-all.ensures ∙ ap (summary m q) c.deref.ensures.value) in
+    let is : c.answer_of.result ≡ answer_at (store_of s) m q =
+    c.answer_of.ensures ∙ ap (scan_answer s.latest q) (c.scan_all.ensures ∙ ap (summary m q) c.deref.ensures.value) in
     let kept : held (meaning (store_of s)) m ≡ true = sym c.holds.ensures ∙ c.if-not-holds.false in
     let P : Answer → Type 0 = λ a. Answers (meaning (store_of s)) m q a in
     record { means = (kept, subst P (sym is) (answers (store_of s) m q (good s) kept)); exact = is }

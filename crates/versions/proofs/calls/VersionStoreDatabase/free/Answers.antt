@@ -3,5 +3,5 @@ use Rattle.versions.specs.Stores.{store_of}
 use Rattle.versions.specs.Meanings.{needed_few, good}
 use Rattle.versions.proofs.calls.VersionStoreDatabase.free.Goals as goal
 
-pub overflow-sub-result : goal.overflow-sub-result
-overflow-sub-result c = let few = needed_few (store_of c.args.self.now) (good c.args.self.now) in search rules
+pub overflow_sub-result : goal.overflow_sub-result
+overflow_sub-result c = let few = needed_few (store_of c.args.self.now) (good c.args.self.now) in search rules

@@ -3,8 +3,8 @@ use Rattle.versions.specs.Stores.{store_of}
 use Rattle.versions.specs.Meanings.{good, pins_to, pins_mean, pins_either}
 use Rattle.versions.proofs.calls.VersionStoreDatabase.pin.Goals as goal
 
-pub invariant-of-self : goal.invariant-of-self
-invariant-of-self c =
+pub invariant_of-self : goal.invariant_of-self
+invariant_of-self c =
     let s = c.args.self.now in
     (s.size, (s.fits, (s.room, (s.moment, (pins_either (store_of s) c.add.result _ c.add.ensures.added (λ e. ap (λ p. vec_items p.moments) (c.add.ensures.same e)) (good s), (s.dated, (s.apart, tt)))))))
 

@@ -5,8 +5,8 @@ use Rattle.versions.specs.Stores.{store_of, needed_of}
 use Rattle.versions.specs.Meanings.{good, no_refusal, needed_few, past_later, writes_to, writes_mean, writes_dated, writes_apart}
 use Rattle.versions.proofs.calls.VersionStoreDatabase.write.Goals as goal
 
-pub change-all-requires : goal.change-all-requires
-change-all-requires c =
+pub change_all-requires : goal.change_all-requires
+change_all-requires c =
     let s = c.args.self.now in
     let part = c.retain.ensures.items ∙ ap (λ pins. filter (needed s.latest pins) (vec_items s.versions)) c.moments.ensures in
     let long = ap length part in
@@ -14,8 +14,8 @@ change-all-requires c =
     let few = needed_few (store_of s) (good s) in
     omega (arith, c.retain.new.list.ok.0, long, room.1, c.free.ensures, c.retain.ensures.capacity, s.room)
 
-pub invariant-of-self : goal.invariant-of-self
-invariant-of-self c =
+pub invariant_of-self : goal.invariant_of-self
+invariant_of-self c =
     let s = c.args.self.now in
     let part = c.retain.ensures.items ∙ ap (λ pins. filter (needed s.latest pins) (vec_items s.versions)) c.moments.ensures in
     let cs = c.args.changes.now in
@@ -24,16 +24,16 @@ invariant-of-self c =
     let long = ap length part in (
       s.size,
       (
-        omega (arith, c.change-all.ensures.len, c.retain.new.list.ok.0, long, room.1, c.free.ensures),
+        omega (arith, c.change_all.ensures.len, c.retain.new.list.ok.0, long, room.1, c.free.ensures),
         (
-          omega (arith, c.change-all.ensures.capacity, c.retain.ensures.capacity, s.room),
+          omega (arith, c.change_all.ensures.capacity, c.retain.ensures.capacity, s.room),
           (
             omega (arith, room.0),
             (
               past_later s.latest (vec_items s.pins.moments) s.past,
               (
-                writes_dated (store_of s) cs _ _ part c.change-all.ensures.items (good s),
-                (writes_apart (store_of s) cs _ _ part c.change-all.ensures.items (good s), tt),
+                writes_dated (store_of s) cs _ _ part c.change_all.ensures.items (good s),
+                (writes_apart (store_of s) cs _ _ part c.change_all.ensures.items (good s), tt),
               ),
             ),
           ),
@@ -47,7 +47,7 @@ returns c =
     let part = c.retain.ensures.items ∙ ap (λ pins. filter (needed s.latest pins) (vec_items s.versions)) c.moments.ensures in
     let cs = c.args.changes.now in
     record {
-      means = (ap (λ free. refusal s.latest free cs) (sym c.free.ensures) ∙ sym c.in-default.ensures, writes_mean (store_of s) cs _ _ part c.change-all.ensures.items (good s));
-      keeps = λ _. writes_to (store_of s) cs _ _ part c.change-all.ensures.items;
+      means = (ap (λ free. refusal s.latest free cs) (sym c.free.ensures) ∙ sym c.in-default.ensures, writes_mean (store_of s) cs _ _ part c.change_all.ensures.items (good s));
+      keeps = λ _. writes_to (store_of s) cs _ _ part c.change_all.ensures.items;
       same = λ e. search rules;
     }
