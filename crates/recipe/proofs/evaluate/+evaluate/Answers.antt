@@ -19,7 +19,7 @@ returns-in_err-last g t c =
     let p = g.R.Recipe.rules c.args.recipe.now in
     let fault = c.in_err-last.field-0.0 in
     let asked = sym (ap (λ t. t.ask) c.next-turn.ensures) ∙ c.in-Query.is in
-    let same : c.from-residual.result ≡ Err fault = handed_on _ fault c.from-residual.ensures.1 in
+    let same : c.from_residual.result ≡ Err fault = handed_on _ fault c.from_residual.ensures.1 in
     let exact = subst (WorksOut db p c.args.moment c.args.sheet c.args.argument c.args.depth) (sym same)
     (stops db p c.args.moment c.args.sheet c.args.argument c.args.depth c.loop-answers.answers c.loop-answers.point (Err fault) c.loop-answers-test.true c.loop-answers.invariant
     (works.Works.refused c.in-Query.query fault asked c.in_err-last.ensures)) in
@@ -50,7 +50,7 @@ returns-in_err-last-2 g t c =
     let p = g.R.Recipe.rules c.args.recipe.now in
     let fault = c.in_err-last-2.field-0.0 in
     let asked = sym (ap (λ t. t.ask) c.next-turn.ensures) ∙ c.in-Call.is in
-    let same : c.from-residual-in_err-last-2.result ≡ Err fault = handed_on _ fault c.from-residual-in_err-last-2.ensures.1 in
+    let same : c.from_residual-in_err-last-2.result ≡ Err fault = handed_on _ fault c.from_residual-in_err-last-2.ensures.1 in
     let exact = subst (WorksOut db p c.args.moment c.args.sheet c.args.argument c.args.depth) (sym same)
     (stops db p c.args.moment c.args.sheet c.args.argument c.args.depth c.loop-answers.answers c.loop-answers.point (Err fault) c.loop-answers-test.true c.loop-answers.invariant
     (failed_on db p c.args.moment c.args.depth (30 - c.loop-answers.answers) c.loop-answers.point c.in-Call.sheet c.in-Call.argument fault c.if-depth-eq0.false asked

@@ -4,7 +4,7 @@ use Rattle.line.proofs.line.Line.get.Goals as goal
 
 pub returns-in_err-at : goal.returns-in_err-at
 returns-in_err-at g c =
-    c.from-residual.ensures ∙ sym (nth_missing c.args.self.now c.args.room.now c.args.i c.in_err-at.ensures)
+    c.from_residual.ensures ∙ sym (nth_missing c.args.self.now c.args.room.now c.args.i c.in_err-at.ensures)
 
 pub returns : goal.returns
 returns g c =

@@ -4,7 +4,7 @@ use Rattle.line.proofs.line.Line.laws.Goals as goal
 
 pub returns : goal.returns
 returns g c =
-    let room = c.args.-room.now in
+    let room = c.args._room.now in
     record {
       count = λ l. length_waiting_fits l room;
       short = λ l. waiting_short l room;
