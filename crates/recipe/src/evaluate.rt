@@ -30,7 +30,7 @@ fn is_read(query: Query) -> bool
 
 // What a recipe's query reads at a moment.
 fn read_at<D: Database>(db: &D, moment: Moment, query: Query) -> Result<Reading, Fault>
-    ensures { ReadsAt (view db.now) moment query result }
+    ensures { ReadsAt (D.view db.now) moment query result }
 {
     if !is_read(query) {
         return Err(Fault::RecipeTable { frames: 0 });
@@ -58,8 +58,8 @@ pub fn evaluate<D: Database, R: Recipe>(
     argument: u32,
     depth: usize,
 ) -> Result<Reading, Fault>
-    ensures exact { WorksOut (view db.now) (rules recipe.now) moment sheet argument depth result }
-    ensures means { Evaluates (view db.now) (rules recipe.now) moment sheet argument depth result }
+    ensures exact { WorksOut (D.view db.now) (R.rules recipe.now) moment sheet argument depth result }
+    ensures means { Evaluates (D.view db.now) (R.rules recipe.now) moment sheet argument depth result }
 {
     if sheet >= recipe.sheets() {
         return Err(Fault::SheetUnknown { frames: 0 });

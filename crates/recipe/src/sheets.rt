@@ -9,7 +9,7 @@ use terms::{Fault, Moment, Reading};
 
 // The claim sheet of a ticket: the state and number of the door in its word, if that door's word is the ticket.
 pub fn claim_sheet<D: Database>(db: &D, moment: Moment, ticket: u32) -> Result<Reading, Fault>
-    ensures { Worth (view db.now) moment (λ records reading. reading ≡ claim_of records ticket) result }
+    ensures { Worth (D.view db.now) moment (λ records reading. reading ≡ claim_of records ticket) result }
 {
     match evaluate(db, &Attendant, moment, 0, ticket, 0) {
         Ok(reading) => Ok(reading),
@@ -19,7 +19,7 @@ pub fn claim_sheet<D: Database>(db: &D, moment: Moment, ticket: u32) -> Result<R
 
 // The board's tally of the doors in a state; absent above 255.
 pub fn tally_sheet<D: Database>(db: &D, moment: Moment, state: u32) -> Result<Reading, Fault>
-    ensures { Worth (view db.now) moment (λ records reading. TallyOf records state reading) result }
+    ensures { Worth (D.view db.now) moment (λ records reading. TallyOf records state reading) result }
 {
     match evaluate(db, &Board, moment, 0, state, 0) {
         Ok(reading) => Ok(reading),
@@ -29,7 +29,7 @@ pub fn tally_sheet<D: Database>(db: &D, moment: Moment, state: u32) -> Result<Re
 
 // The board's counts of free and of taken doors.
 pub fn counts_sheet<D: Database>(db: &D, moment: Moment) -> Result<Reading, Fault>
-    ensures { Worth (view db.now) moment CountsOf result }
+    ensures { Worth (D.view db.now) moment CountsOf result }
 {
     match evaluate(db, &Board, moment, 1, 0, 1) {
         Ok(reading) => Ok(reading),

@@ -4,8 +4,7 @@ ghost use Rattle.database.specs.Databases.{held, PinsLatest, Unpins, UnpinsAll, 
 ghost use Rattle.versions.specs.Versions.{needed, visible};
 ghost use Rattle.versions.specs.Scans.{scan_answer};
 ghost use Rattle.versions.specs.Stores.{in_range, Refused, store_of, meaning, empty_at, pinned, unpinned, unpinned_all, written, answer_at};
-ghost use Rattle.versions.specs.Meanings;
-ghost use Rattle.versions.specs.Meanings.{good};
+ghost use Rattle.versions.specs.Soundness;
 
 use crate::scan::Scan;
 use crate::scanning::scan_all;
@@ -83,7 +82,7 @@ impl VersionStore {
 impl Database for VersionStore {
     ghost view = { λ s. meaning (store_of s) };
 
-    ghost sound = { λ x. Meanings.sound (store_of x) (good x) };
+    ghost sound = { λ x. Soundness.sound (store_of x) (Soundness.good x) };
 
     fn latest(&self) -> Moment {
         self.latest

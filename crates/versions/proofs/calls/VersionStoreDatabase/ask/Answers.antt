@@ -3,8 +3,8 @@ use Rattle.database.specs.Databases.{Answers, held}
 use Rattle.database.specs.declared.Answer.{Answer}
 use Rattle.versions.specs.Scans.{scan_answer, summary}
 use Rattle.versions.specs.Stores.{store_of, meaning, answer_at}
-use Rattle.versions.specs.Meanings.{good}
-use Rattle.versions.specs.Asking.{answers}
+use Rattle.versions.specs.Soundness.{good}
+use Rattle.versions.proofs.Asking.{answers}
 use Rattle.versions.proofs.calls.VersionStoreDatabase.ask.Goals as goal
 
 pub returns : goal.returns

@@ -1,6 +1,7 @@
 use Rattle.std.proofs.Common.{rules}
 use Rattle.versions.specs.Stores.{store_of}
-use Rattle.versions.specs.Meanings.{needed_few, good}
+use Rattle.versions.specs.Soundness.{good}
+use Rattle.versions.proofs.Meanings.{needed_few}
 use Rattle.versions.proofs.calls.VersionStoreDatabase.free.Goals as goal
 
 pub overflow_sub-result : goal.overflow_sub-result

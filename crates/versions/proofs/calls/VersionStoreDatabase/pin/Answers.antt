@@ -1,12 +1,13 @@
 use Rattle.std.proofs.Common.{vec_items, sym, refl, ap, ◌∙◌, rules}
 use Rattle.versions.specs.Stores.{store_of}
-use Rattle.versions.specs.Meanings.{good, pins_to, pins_mean, pins_either}
+use Rattle.versions.specs.Soundness.{good}
+use Rattle.versions.proofs.Meanings.{pins_to, pins_mean, pins_either}
 use Rattle.versions.proofs.calls.VersionStoreDatabase.pin.Goals as goal
 
-pub invariant_of-self : goal.invariant_of-self
-invariant_of-self c =
+pub invariant_of-self-clause-past : goal.invariant_of-self-clause-past
+invariant_of-self-clause-past c =
     let s = c.args.self.now in
-    (s.size, (s.fits, (s.room, (s.moment, (pins_either (store_of s) c.add.result _ c.add.ensures.added (λ e. ap (λ p. vec_items p.moments) (c.add.ensures.same e)) (good s), (s.dated, (s.apart, tt)))))))
+    pins_either (store_of s) c.add.result _ c.add.ensures.added (λ e. ap (λ p. vec_items p.moments) (c.add.ensures.same e)) (good s)
 
 pub returns-then-add : goal.returns-then-add
 returns-then-add c =

@@ -2,7 +2,8 @@ use Rattle.std.proofs.Common.{◌≡◌, ◌+◌, ◌<◌, ◌≤◌, length, ve
 use Rattle.database.specs.Writes.{refusal}
 use Rattle.versions.specs.Versions.{needed}
 use Rattle.versions.specs.Stores.{store_of, needed_of}
-use Rattle.versions.specs.Meanings.{good, no_refusal, needed_few, past_later, writes_to, writes_mean, writes_dated, writes_apart}
+use Rattle.versions.specs.Soundness.{good}
+use Rattle.versions.proofs.Meanings.{no_refusal, needed_few, past_later, writes_to, writes_mean, writes_dated, writes_apart}
 use Rattle.versions.proofs.calls.VersionStoreDatabase.write.Goals as goal
 
 pub change_all-requires : goal.change_all-requires
@@ -10,7 +11,7 @@ change_all-requires c =
     let s = c.args.self.now in
     let part = c.retain.ensures.items ∙ ap (λ pins. filter (needed s.latest pins) (vec_items s.versions)) c.moments.ensures in
     let long = ap length part in
-    let room = no_refusal s.latest c.free.result c.args.changes.now (sym c.in-default.ensures) in
+    let room = no_refusal s.latest c.free.result c.args.changes.now (sym c.in_default.ensures) in
     let few = needed_few (store_of s) (good s) in
     omega (arith, c.retain.new.list.ok.0, long, room.1, c.free.ensures, c.retain.ensures.capacity, s.room)
 
@@ -19,27 +20,18 @@ invariant_of-self c =
     let s = c.args.self.now in
     let part = c.retain.ensures.items ∙ ap (λ pins. filter (needed s.latest pins) (vec_items s.versions)) c.moments.ensures in
     let cs = c.args.changes.now in
-    let room = no_refusal s.latest c.free.result cs (sym c.in-default.ensures) in
+    let room = no_refusal s.latest c.free.result cs (sym c.in_default.ensures) in
     let few = needed_few (store_of s) (good s) in
-    let long = ap length part in (
-      s.size,
-      (
-        omega (arith, c.change_all.ensures.len, c.retain.new.list.ok.0, long, room.1, c.free.ensures),
-        (
-          omega (arith, c.change_all.ensures.capacity, c.retain.ensures.capacity, s.room),
-          (
-            omega (arith, room.0),
-            (
-              past_later s.latest (vec_items s.pins.moments) s.past,
-              (
-                writes_dated (store_of s) cs _ _ part c.change_all.ensures.items (good s),
-                (writes_apart (store_of s) cs _ _ part c.change_all.ensures.items (good s), tt),
-              ),
-            ),
-          ),
-        ),
-      ),
-    )
+    let long = ap length part in
+    record {
+      size = s.size;
+      fits = omega (arith, c.change_all.ensures.len, c.retain.new.list.ok.0, long, room.1, c.free.ensures);
+      room = omega (arith, c.change_all.ensures.capacity, c.retain.ensures.capacity, s.room);
+      moment = omega (arith, room.0);
+      past = past_later s.latest (vec_items s.pins.moments) s.past;
+      dated = writes_dated (store_of s) cs _ _ part c.change_all.ensures.items (good s);
+      apart = writes_apart (store_of s) cs _ _ part c.change_all.ensures.items (good s);
+    }
 
 pub returns : goal.returns
 returns c =
@@ -47,7 +39,7 @@ returns c =
     let part = c.retain.ensures.items ∙ ap (λ pins. filter (needed s.latest pins) (vec_items s.versions)) c.moments.ensures in
     let cs = c.args.changes.now in
     record {
-      means = (ap (λ free. refusal s.latest free cs) (sym c.free.ensures) ∙ sym c.in-default.ensures, writes_mean (store_of s) cs _ _ part c.change_all.ensures.items (good s));
+      means = (ap (λ free. refusal s.latest free cs) (sym c.free.ensures) ∙ sym c.in_default.ensures, writes_mean (store_of s) cs _ _ part c.change_all.ensures.items (good s));
       keeps = λ _. writes_to (store_of s) cs _ _ part c.change_all.ensures.items;
       same = λ e. search rules;
     }

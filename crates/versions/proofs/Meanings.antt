@@ -16,28 +16,10 @@ use Rattle.database.proofs.Sets.{among_added, among_without}
 use Rattle.database.proofs.Rows.{few_keys, keys_in}
 use Rattle.versions.specs.Versions.{visible, rows_at, state_at, needed, changed_by_all, dated}
 use Rattle.versions.specs.declared.version.Version.{Version}
-use Rattle.versions.specs.declared.store.VersionStore.{VersionStore}
+use Rattle.versions.specs.Soundness.{good}
 use Rattle.versions.specs.Stores.{Store, store_of, meaning, needed_of, pinned, unpinned, unpinned_all, written, Good}
-use Rattle.versions.specs.Asking.{every_among, every_append, held_past}
-use Rattle.versions.specs.Writing.{rows_needed, rows_before, rows_late, rows_changes, dated_part, dated_changes, apart_changes, unique_part}
-
--- every store is a database
-pub sound : (s : Store) → Good s → Sound (meaning s)
-sound s good = record {
-  moments = good.moment;
-  few = good.few;
-  once = good.once;
-  past = λ m a. leb-true m s.latest (every_among (λ pin. nat_le pin s.latest) s.pins m good.past a);
-  listed = λ m t st h. (_, keys_in t st (rows_at m s.kept) (good.apart m));
-  counted = λ m t st keys h told.
-      let few = few_keys t st (rows_at m s.kept) keys (good.apart m) told in
-      let a = length-map (filter (visible m) s.kept) (λ version. version.row) in
-      let b = length-filter (visible m) s.kept in
-      let c = count_by-le-length (visible m) s.kept in
-      let d = good.fits in
-      let e = good.size in
-      omega arith;
-}
+use Rattle.versions.proofs.Asking.{every_among, every_append, held_past}
+use Rattle.versions.proofs.Writing.{rows_needed, rows_before, rows_late, rows_changes, dated_part, dated_changes, apart_changes, unique_part}
 
 pub pins_latest : (s : Store) → can_pin (meaning s) ≡ true → Pinned (meaning s) s.latest (meaning (pinned s))
 pins_latest s can = record { can = can; answer = refl; latest = refl; pins = λ n. among_added n s.latest s.pins; states = λ m t k h. refl }
@@ -93,19 +75,6 @@ writes s cs good =
           (rows_late l (l + 1) part (omega arith) (every_kept (dated l) (needed l s.pins) s.kept good.dates)
           ∙ rows_needed l l s.pins s.kept (or_left _ _ (eq-eqb l l refl)));
     }
-
--- what a store's type says of it
-pub good : (s : VersionStore) → Good (store_of s)
-good s = record {
-  size = s.size;
-  fits = omega (arith, s.fits, s.versions.ok.0);
-  moment = s.moment;
-  few = omega (arith, s.pins.few, s.pins.moments.ok.0);
-  once = s.pins.once;
-  past = s.past;
-  dates = s.dated;
-  apart = s.apart;
-}
 
 -- the same store with other pins
 abbrev with_pins : Store → List ℕ → Store
