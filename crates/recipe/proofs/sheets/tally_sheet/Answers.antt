@@ -9,4 +9,4 @@ returns-in-Ok g c = tally_worth _ c.args.state _ _ _ _ c.in-Ok.ensures.means.1.1
 pub returns-in-Err : goal.returns-in-Err
 returns-in-Err g c =
     let db = g.D.Database.view c.args.db.now in
-    (unheld db board c.args.moment 0 c.args.state 0 _ (tally_exists db c.args.moment c.args.state (g.D.Database.sound c.args.db.now)) c.in-Err.ensures.means, refl)
+    (unheld db board c.args.moment 0 c.args.state 0 _ (tally_exists db c.args.moment c.args.state (g.met.D.Database.sound c.args.db.now)) c.in-Err.ensures.means, refl)
