@@ -16,6 +16,7 @@ use Rattle.database.specs.Databases.{held, Answers}
 use Rattle.database.proofs.Rows.{reads_rows}
 use Rattle.database.proofs.Readings.{reads_alike}
 use Rattle.database.proofs.Turns.{Alike, among_append, every_append, every_among, between_inside, between_alike, between_known}
+use Rattle.undo.specs.Soundness.{held_floor, only, only_few, rows_hold, rows_unique, shown_from}
 use Rattle.undo.specs.declared.entry.Entry.{Entry}
 use Rattle.undo.specs.declared.entry.Version.{Version}
 use Rattle.undo.specs.Journals.{state_at}
@@ -23,70 +24,10 @@ use Rattle.undo.specs.Versions.{versions, is_told, replacements, turns_by, turns
 use Rattle.undo.specs.Scans.{is_above, found}
 use Rattle.database.specs.Scans.{scan_answer}
 use Rattle.undo.specs.Stores.{Store, meaning, validity, Good}
-use Rattle.undo.proofs.Showing.{only, only_few, shown_from}
-
--- rows of which each record has at most one hold its value
-
-first : List Value → Option Value
-first [] = None
-first (v ∷ vs) = Some v
-
-holding_first : (rows : List Row) (t k : ℕ) → holding rows t k ≡ first (values_in rows t k)
-unfolding first
-holding_first [] t k = refl
-holding_first (row ∷ rows) t k =
-    let ih = holding_first rows t k in
-    ⊎_elim (λ e. rw e refl) (λ e. rw e ih) (cases_Bool (is_id row.id (record { table = t; key = k })))
-
-first_only : (o : Option Value) → first (only o) ≡ o
-unfolding first
-first_only None = refl
-first_only (Some v) = refl
-
-pub holding_only : (rows : List Row) (t k : ℕ) (o : Option Value) → values_in rows t k ≡ only o → holding rows t k ≡ o
-holding_only rows t k o e = holding_first rows t k ∙ ap first e ∙ first_only o
-
-present_values : (id : RecordId) (rows : List Row) → present id rows ≡ true → 1 ≤ length (values_in rows id.table id.key)
-present_values id [] e = grind arith
-present_values id (row ∷ rows) e =
-    let ih = present_values id rows in
-    let s : is_id row.id id ≡ is_id id row.id = grind (arith, telling) in
-    ⊎_elim
-    (λ (b : is_id row.id id ≡ true). rw b (omega arith))
-    (λ (b : is_id row.id id ≡ false). rw b (ih (grind arith)))
-    (cases_Bool (is_id row.id id))
-
-values_cons : (row : Row) (rows : List Row) (t k : ℕ) → length (values_in rows t k) ≤ length (values_in (row ∷ rows) t k)
-values_cons row rows t k =
-    ⊎_elim (λ e. rw e (omega arith)) (λ e. rw e (omega arith)) (cases_Bool (is_id row.id (record { table = t; key = k })))
-
-pub unique_only : (rows : List Row) → ((t k : ℕ) → length (values_in rows t k) ≤ 1) → unique rows ≡ true
-unique_only [] h = refl
-unique_only (row ∷ rows) h =
-    let ih = unique_only rows (λ t k. let a = values_cons row rows t k in let b = h t k in omega arith) in
-    let id = row.id in
-    let self : is_id id id ≡ true = and_from _ _ (eq-eqb id.table id.table refl) (eq-eqb id.key id.key refl) in
-    let two : length (values_in (row ∷ rows) id.table id.key) ≡ 1 + length (values_in rows id.table id.key) = rw self (omega arith) in
-    ⊎_elim
-    (λ (e : present id rows ≡ true). let a = present_values id rows e in let b = h id.table id.key in absurd (omega arith))
-    (λ (e : present id rows ≡ false). rw e ih)
-    (cases_Bool (present id rows))
-
--- the records at a moment from the floor on, as the versions tell them
-
-pub held_floor : (s : Store) (m : ℕ) → Good s → held (meaning s) m ≡ true → s.floor ≤ m
-held_floor s m good h = leb-true s.floor m (every_among (λ n. leb s.floor n) (s.latest ∷ s.pins) m good.kept h)
 
 pub held_past : (s : Store) (m : ℕ) → Good s → held (meaning s) m ≡ true → m ≤ s.latest
 held_past s m good h =
     ⊎_elim (λ e. let is = eqb-true m s.latest e in omega arith) (λ a. leb-true m s.latest (every_among (λ pin. leb pin s.latest) s.pins m good.past a)) (or_cases _ _ h)
-
-pub rows_hold : (s : Store) (m : ℕ) → Good s → s.floor ≤ m → (t k : ℕ) → holding (rows_at m (versions s.present s.entries)) t k ≡ state_at s.present s.entries m t k
-rows_hold s m good h t k = holding_only _ t k _ (shown_from s.floor m t k s.present s.entries (good.apart m t k) h)
-
-pub rows_unique : (s : Store) (m : ℕ) → Good s → s.floor ≤ m → unique (rows_at m (versions s.present s.entries)) ≡ true
-rows_unique s m good h =
-    unique_only (rows_at m (versions s.present s.entries)) (λ t k. let l = only_few (state_at s.present s.entries m t k) in let e = ap length (shown_from s.floor m t k s.present s.entries (good.apart m t k) h) in omega arith)
 
 pub reads_at : (s : Store) (m : ℕ) (q : Query) → Good s → s.floor ≤ m → Reads (state_at s.present s.entries m) q (read_rows q (rows_at m (versions s.present s.entries)))
 reads_at s m q good h =

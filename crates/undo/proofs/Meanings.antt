@@ -19,6 +19,7 @@ use Rattle.database.proofs.Rows.{keys_in, few_keys}
 use Rattle.database.proofs.Turns.{every_among, every_append, every_kept}
 use Rattle.line.specs.Rings.{waiting}
 use Rattle.line.proofs.Rings.{length_waiting_le, length_waiting_fits, waiting_none}
+use Rattle.undo.specs.Soundness.{few_rows, good, held_floor, joined_few, rows_hold, rows_unique}
 use Rattle.undo.specs.declared.entry.Present.{Present}
 use Rattle.undo.specs.declared.entry.Entry.{Entry}
 use Rattle.undo.specs.declared.ledger.Ledger.{Ledger}
@@ -30,62 +31,7 @@ use Rattle.undo.specs.Stores.{Store, store_from, store_of, empty_at, in_range, m
 use Rattle.undo.proofs.Undoing.{later_later, states_before, state_late, changed_same, put_presents, commits_later, commits_changes, ascending_later, ascending_changes, newest}
 use Rattle.undo.proofs.Telling.{dated_part, dated_changes, told_part, told_changes}
 use Rattle.undo.proofs.Showing.{unique_changes, shown_written}
-use Rattle.undo.proofs.Passes.{few_rows, joined_few}
-use Rattle.undo.proofs.Asking.{held_floor, held_past, rows_hold, rows_unique}
-
--- what a store's type says of it
-pub good : (s : UndoStore) → Good (store_of s)
-good s =
-    let l = s.ledger.line in
-    record {
-      size = s.size;
-      rows = omega (arith, s.rows, s.ledger.present.ok.0);
-      places = omega (arith, length_waiting_le l s.ledger.journal.now, l.few);
-      moment = s.moment;
-      few = omega (arith, s.pins.few, s.pins.moments.ok.0);
-      once = s.pins.once;
-      past = s.past;
-      kept = s.kept;
-      single = s.single;
-      ascends = s.ascends;
-      commits = s.commits;
-      dates = s.dates;
-      told = s.told;
-      apart = s.apart;
-    }
-
-few_versions : (s : Store) → Good s → length (versions s.present s.entries) ≤ 8192
-few_versions s good =
-    let a = length-append (map current s.present) (flat_map replaced_by s.entries) in
-    let b = length-map s.present current in
-    let c = joined_few s.entries in
-    omega (arith, good.size, good.rows, good.places)
-
-seen_same : (one other : Records) (t k : ℕ) → one t k ≡ other t k → seen one t k ≡ seen other t k
-seen_same one other t k e = ap (λ (v : Option Value). cond (known_table t) v None) e
-
--- every store is a database
-pub sound : (s : Store) → Good s → Sound (meaning s)
-sound s good = record {
-  moments = good.moment;
-  few = good.few;
-  once = good.once;
-  past = λ m a. leb-true m s.latest (every_among (λ pin. leb pin s.latest) s.pins m good.past a);
-  listed = λ m t st h.
-      let from = held_floor s m good h in
-      let rows = rows_at m (versions s.present s.entries) in
-      let own = keys_in t st rows (rows_unique s m good from) in
-      (_, record { once = own.once; these = λ key. own.these key ∙ ap (λ v. in_state st v) (seen_same (holding rows) (state_at s.present s.entries m) t key (rows_hold s m good from t key)) });
-  counted = λ m t st keys h told.
-      let from = held_floor s m good h in
-      let vs = versions s.present s.entries in
-      let rows = rows_at m vs in
-      let in_rows : KeysIn (holding rows) t st keys = record { once = told.once; these = λ key. told.these key ∙ ap (λ v. in_state st v) (seen_same (state_at s.present s.entries m) (holding rows) t key (sym (rows_hold s m good from t key))) } in
-      let few = few_keys t st rows keys (rows_unique s m good from) in_rows in
-      let a = few_rows m vs in
-      let b = few_versions s good in
-      omega arith;
-}
+use Rattle.undo.proofs.Asking.{held_past}
 
 -- pins
 

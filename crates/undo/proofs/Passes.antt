@@ -12,6 +12,7 @@ use Rattle.database.specs.Rows.{matches}
 use Rattle.database.specs.Scans.{summary}
 use Rattle.database.proofs.Turns.{kept_push, turn_push, read_push, pass_push}
 use Rattle.line.proofs.Rings.{walk_more, walk_none, got_within}
+use Rattle.undo.specs.Soundness.{few_rows, joined_few}
 use Rattle.undo.specs.declared.entry.Held.{Held}
 use Rattle.undo.specs.declared.entry.Present.{Present}
 use Rattle.undo.specs.declared.entry.Entry.{Entry}
@@ -66,13 +67,6 @@ unread_end m q vs ns v is =
     (λ e. ap (λ rows. summary m q rows ns) (sym (rows_push m vs v ∙ cond-false (visible m v) _ _ e)))
     (cases_Bool (visible m v))
 
-pub few_rows : (m : ℕ) (vs : List Version) → length (rows_at m vs) ≤ length vs
-few_rows m vs =
-    let a = length-map (filter (visible m) vs) (λ version. version.row) in
-    let b = length-filter (visible m) vs in
-    let c = count_by-le-length (visible m) vs in
-    omega arith
-
 found_push : (floor m : ℕ) (q : Query) (vs : List Version) (v : Version) → length vs < 4294967295 → scanned floor m q v (found floor m q vs) ≡ found floor m q (vs ++ v ∷ [])
 found_push floor m q vs v few =
     let ns = turns_among (is_above floor) q vs in
@@ -96,19 +90,6 @@ present_more floor m q ps i d scan next h few e is =
     let b = length-take i ps in
     is ∙ ap (scanned floor m q (current (get_or ps i d))) e ∙ found_push floor m q (map current (take i ps)) (current (get_or ps i d)) (omega arith)
     ∙ ap (found floor m q) (sym (map_more current ps i d h))
-
--- one more entry
-former_few : (id : RecordId) (commit : ℕ) (held : Option Held) → length (former id commit held) ≤ 1
-former_few id commit None = omega arith
-former_few id commit (Some held) = omega arith
-
-pub joined_few : (es : List Entry) → length (flat_map replaced_by es) ≤ length es
-joined_few [] = omega arith
-joined_few (e ∷ es) =
-    let ih = joined_few es in
-    let f = former_few e.id e.commit e.former in
-    let l = length-append (replaced_by e) (flat_map replaced_by es) in
-    omega arith
 
 former_push : (floor m : ℕ) (q : Query) (vs : List Version) (id : RecordId) (commit : ℕ) (held : Option Held) → length vs < 4294967295
     → scanned_all floor m q (former id commit held) (found floor m q vs) ≡ found floor m q (vs ++ former id commit held)

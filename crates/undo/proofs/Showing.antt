@@ -12,6 +12,7 @@ use Rattle.terms.specs.declared.record.Change.TheVariants.{Set, Delete}
 use Rattle.terms.specs.Records.{is_id, change_id}
 use Rattle.database.specs.Lists.{every}
 use Rattle.database.specs.Rows.{holding, present, unique}
+use Rattle.undo.specs.Soundness.{only, only_few, shown_from}
 use Rattle.undo.specs.declared.entry.Held.{Held}
 use Rattle.undo.specs.declared.entry.Present.{Present}
 use Rattle.undo.specs.declared.entry.Entry.{Entry}
@@ -21,35 +22,12 @@ use Rattle.undo.specs.Versions.{current, former, replaced_by, versions, visible,
 use Rattle.undo.proofs.Undoing.{later_later, states_before, state_late, commits_changes}
 use Rattle.undo.proofs.Telling.{joined_append, versions_change, dated_changes}
 
--- one value, or none
-abbrev pub only : Option Value → List Value
-only None = []
-only (Some value) = value ∷ []
-
-same_value : (v w : Value) → (eqb v.state w.state && eqb v.word w.word) ≡ true → v ≡ w
-same_value v w e =
-    let s : v.state ≡ w.state = grind (arith, telling) in
-    let t : v.word ≡ w.word = grind (arith, telling) in
-    let made : ℕ → ℕ → Value = λ state word. record { state = state; word = word } in
-    ap (λ n. made n v.word) s ∙ ap (made w.state) t
-
-pub only_from : (xs : List Value) (o : Option Value) → is_only xs o ≡ true → xs ≡ only o
-only_from [] None e = refl
-only_from [] (Some w) e = grind arith
-only_from (x ∷ xs) None e = grind arith
-only_from (x ∷ []) (Some w) e = ap (λ v. v ∷ []) (same_value x w e)
-only_from (x ∷ (y ∷ xs)) (Some w) e = grind arith
-
 only_is_only : (o : Option Value) → is_only (only o) o ≡ true
 only_is_only None = refl
 only_is_only (Some w) = and_from _ _ (eq-eqb w.state w.state refl) (eq-eqb w.word w.word refl)
 
 pub only_to : (xs : List Value) (o : Option Value) → xs ≡ only o → is_only xs o ≡ true
 only_to xs o e = ap (λ ys. is_only ys o) e ∙ only_is_only o
-
-pub only_few : (o : Option Value) → length (only o) ≤ 1
-only_few None = omega arith
-only_few (Some w) = omega arith
 
 -- where there is at most one in all, the order is the same
 swap : {X : Type 0} (xs ys : List X) → length (xs ++ ys) ≤ 1 → ys ++ xs ≡ xs ++ ys
@@ -301,10 +279,6 @@ every_le n m (x ∷ es) h e = let w = and_parts _ _ e in let b = leb-true x.comm
 every_front : {X : Type 0} (p : X → Bool) (xs ys : List X) → every p (xs ++ ys) ≡ true → every p xs ≡ true
 every_front p [] ys h = refl
 every_front p (x ∷ xs) ys h = let w = and_parts _ _ h in and_from _ _ w.0 (every_front p xs ys w.1)
-
--- what is shown, as an equation, and back
-pub shown_from : (floor m t k : ℕ) (ps : List Present) (es : List Entry) → is_shown floor ps es m t k ≡ true → floor ≤ m → values_in (rows_at m (versions ps es)) t k ≡ only (state_at ps es m t k)
-shown_from floor m t k ps es s h = only_from _ _ (sym (cond-true (leb floor m) _ _ (le-leb floor m h)) ∙ s)
 
 shown_to : (floor m t k : ℕ) (ps : List Present) (es : List Entry) → (floor ≤ m → joined (shows m t k) (versions ps es) ≡ only (state_at ps es m t k)) → is_shown floor ps es m t k ≡ true
 shown_to floor m t k ps es f =

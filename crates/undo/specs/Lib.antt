@@ -3,3 +3,4 @@ pub mod Versions
 pub mod Ledgers
 pub mod Scans
 pub mod Stores
+pub mod Soundness

@@ -2,6 +2,7 @@
 ghost use Rattle.std.specs.Prelude.{◌≡◌, ℕ, Bool, true, false, not, ◌&&◌, ◌||◌, ◌∷◌, length, is_ok, IfOk, MatchResult, ◌==◌, nat_le, nat_lt};
 ghost use Rattle.database.specs.Lists.{every, among, least, added, without};
 ghost use Rattle.database.specs.Databases.{held, PinsLatest, Unpins, UnpinsAll, Asks, Writes};
+ghost use Rattle.undo.specs.Soundness;
 ghost use Rattle.undo.specs.Stores.{lowest, in_range, Refused, store_of, meaning, empty_at, pinned, unpinned, unpinned_all, written, validity};
 
 use crate::entry::Entry;
@@ -105,6 +106,8 @@ impl<'a> UndoStore<'a> {
 
 impl Database for UndoStore<'_> {
     ghost view = { λ s. meaning (store_of s) };
+
+    ghost sound = { λ x. Soundness.sound (store_of x) (Soundness.good x) };
 
     fn latest(&self) -> Moment {
         self.latest

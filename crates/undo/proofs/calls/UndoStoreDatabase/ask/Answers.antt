@@ -2,8 +2,8 @@ use Rattle.std.proofs.Common.{◌≡◌, true, sym, ap, ◌∙◌, subst, arith}
 use Rattle.database.specs.Databases.{Answers, held}
 use Rattle.database.specs.declared.Answer.{Answer}
 use Rattle.database.specs.Scans.{scan_answer}
+use Rattle.undo.specs.Soundness.{good}
 use Rattle.undo.specs.Stores.{store_of, meaning}
-use Rattle.undo.proofs.Meanings.{good}
 use Rattle.undo.proofs.Asking.{answer_at, answers, answer_found}
 use Rattle.undo.proofs.calls.UndoStoreDatabase.ask.Goals as goal
 

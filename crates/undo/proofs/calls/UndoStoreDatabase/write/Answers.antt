@@ -1,8 +1,9 @@
 use Rattle.std.proofs.Common.{◌+◌, ◌≤◌, length, vec_items, vec_len, vec_capacity, sym, ap, ◌∙◌, arith, rules}
 use Rattle.database.specs.Writes.{refusal}
 use Rattle.line.proofs.Rings.{length_waiting_fits}
+use Rattle.undo.specs.Soundness.{good}
 use Rattle.undo.specs.Stores.{store_of, store_from}
-use Rattle.undo.proofs.Meanings.{good, no_refusal, needed_part, writes_left, writes_lasting, writes_mean}
+use Rattle.undo.proofs.Meanings.{no_refusal, needed_part, writes_left, writes_lasting, writes_mean}
 use Rattle.undo.proofs.calls.UndoStoreDatabase.write.Goals as goal
 
 pub change_all-requires : goal.change_all-requires
