@@ -14,12 +14,13 @@ use Rattle.database.proofs.Rows.{keys_in}
 use Rattle.database.specs.States.{Records, KeysIn, in_state}
 use Rattle.database.specs.Writes.{changed}
 use Rattle.database.specs.Databases.{Sound}
-use Rattle.validity.specs.Versions.{rows_at, dated}
+use Rattle.versions.specs.Versions.{rows_at, dated}
 use Rattle.versions.specs.Versions.{state_at}
 use Rattle.versions.specs.Stores.{Store, meaning, pinned as pinnedIn, written, answer_at, Good}
-use Rattle.versions.specs.Meanings.{sound, pins_latest, unpins_all, writes}
-use Rattle.versions.specs.Asking.{answers}
-use Rattle.versions.specs.Writing.{apart_changes}
+use Rattle.versions.specs.Soundness.{sound}
+use Rattle.versions.proofs.Meanings.{pins_latest, unpins_all, writes}
+use Rattle.versions.proofs.Asking.{answers}
+use Rattle.versions.proofs.Writing.{apart_changes}
 use Rattle.cache.specs.declared.entry.Entry.{Entry}
 use Rattle.cache.specs.declared.key.Key.{Key}
 use Rattle.cache.specs.Lists.{Among, Same}

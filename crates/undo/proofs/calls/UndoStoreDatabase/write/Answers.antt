@@ -11,7 +11,7 @@ change_all-requires c =
     let s = c.args.self.now in
     let l = c.keep.new.self in
     let part = needed_part s c.lowest-lowest.result c.needed-needed.result _ c.lowest-lowest.ensures c.needed-needed.ensures c.keep.ensures.entries in
-    let room = no_refusal s.latest c.free.result c.args.changes.now (sym c.in-default.ensures) in
+    let room = no_refusal s.latest c.free.result c.args.changes.now (sym c.in_default.ensures) in
     let journal = ap length c.keep.ensures.journal in
     let fits : l.line.size ≤ length l.journal.now = omega (arith, c.keep.ensures.size, s.fits) in
     let here = length_waiting_fits l.line l.journal.now fits in
@@ -29,24 +29,24 @@ invariant_of-self c =
     let kept = c.keep.ensures.present in
     let grown = c.change_all.ensures.grown in
     let part = needed_part s c.lowest-lowest.result c.needed-needed.result _ c.lowest-lowest.ensures c.needed-needed.ensures c.keep.ensures.entries in
-    let room = no_refusal s.latest c.free.result cs (sym c.in-default.ensures) in
+    let room = no_refusal s.latest c.free.result cs (sym c.in_default.ensures) in
     let to = writes_left s cs c.lowest-lowest.result c.keep.new.self l c.lowest-lowest.ensures part kept c.keep.ensures.size grown c.change_all.ensures.present c.change_all.ensures.entries in
-    let w = writes_lasting (store_of s) cs (store_from (s.latest + 1) c.lowest-lowest.result (vec_items s.pins.moments) l) to (good s) in (
-      omega (arith, grown.size, c.keep.ensures.size, s.size),
-      (
-        omega (arith, grown.capacity, grown.size, ap vec_capacity kept, c.keep.ensures.size, s.room),
-        (
-          grown.fits,
-          (
-            omega (arith, grown.rows, grown.size, ap vec_len kept, c.keep.ensures.size, s.ledger.present.ok.0, room.1, c.free.ensures),
-            (
-              omega (arith, room.0),
-              (w.past, (w.kept, (w.single, (w.ascends, (w.commits, (w.dates, (w.told, (w.apart, tt)))))))),
-            ),
-          ),
-        ),
-      ),
-    )
+    let w = writes_lasting (store_of s) cs (store_from (s.latest + 1) c.lowest-lowest.result (vec_items s.pins.moments) l) to (good s) in
+    record {
+      size = omega (arith, grown.size, c.keep.ensures.size, s.size);
+      room = omega (arith, grown.capacity, grown.size, ap vec_capacity kept, c.keep.ensures.size, s.room);
+      fits = grown.fits;
+      rows = omega (arith, grown.rows, grown.size, ap vec_len kept, c.keep.ensures.size, s.ledger.present.ok.0, room.1, c.free.ensures);
+      moment = omega (arith, room.0);
+      past = w.past;
+      kept = w.kept;
+      single = w.single;
+      ascends = w.ascends;
+      commits = w.commits;
+      dates = w.dates;
+      told = w.told;
+      apart = w.apart;
+    }
 
 pub returns : goal.returns
 returns c =
@@ -56,7 +56,7 @@ returns c =
     let part = needed_part s c.lowest-lowest.result c.needed-needed.result _ c.lowest-lowest.ensures c.needed-needed.ensures c.keep.ensures.entries in
     let to = writes_left s cs c.lowest-lowest.result c.keep.new.self l c.lowest-lowest.ensures part c.keep.ensures.present c.keep.ensures.size c.change_all.ensures.grown c.change_all.ensures.present c.change_all.ensures.entries in
     record {
-      means = (ap (λ free. refusal s.latest free cs) (sym c.free.ensures) ∙ sym c.in-default.ensures, writes_mean (store_of s) cs (store_from (s.latest + 1) c.lowest-lowest.result (vec_items s.pins.moments) l) to (good s));
+      means = (ap (λ free. refusal s.latest free cs) (sym c.free.ensures) ∙ sym c.in_default.ensures, writes_mean (store_of s) cs (store_from (s.latest + 1) c.lowest-lowest.result (vec_items s.pins.moments) l) to (good s));
       keeps = λ _. to;
       same = λ e. search rules;
     }

@@ -5,7 +5,7 @@ use Rattle.line.proofs.Rings.{length_waiting_le}
 use Rattle.undo.specs.Journals.{later}
 use Rattle.undo.proofs.Walks.{later_more, later_less, later_none}
 use Rattle.undo.proofs.ledger.Ledger.needed.Goals as goal
-use Rattle.undo.proofs.ledger.Ledger.needed.Goals.{in-Some+then-is_needed, in-Some+else-is_needed, in-default}
+use Rattle.undo.proofs.ledger.Ledger.needed.Goals.{in-Some+then-is_needed, in-Some+else-is_needed, in_default}
 
 pub loop-i-preserved : goal.loop-i-preserved
 loop-i-preserved c =
@@ -17,7 +17,7 @@ loop-i-preserved c =
     elim c.match-entry.branch [
       | in-Some+then-is_needed w ↦ later_more low es i w.in-Some.entry n _ w.in-Some.ensures (sym w.if-is_needed.ensures) c.loop-i.invariant w.needed-is
       | in-Some+else-is_needed w ↦ later_less low es i w.in-Some.entry n _ w.in-Some.ensures (sym w.if-is_needed.ensures) c.loop-i.invariant w.needed-is
-      | in-default w ↦ later_none low es i n _ w.in-default.ensures c.loop-i.invariant w.needed-is
+      | in_default w ↦ later_none low es i n _ w.in_default.ensures c.loop-i.invariant w.needed-is
     ]
 
 pub returns : goal.returns

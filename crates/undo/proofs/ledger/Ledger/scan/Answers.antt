@@ -6,7 +6,7 @@ use Rattle.undo.specs.Versions.{current, versions}
 use Rattle.undo.specs.Scans.{found}
 use Rattle.undo.proofs.Passes.{entry_more, entry_none, entry_first}
 use Rattle.undo.proofs.ledger.Ledger.scan.Goals as goal
-use Rattle.undo.proofs.ledger.Ledger.scan.Goals.{in-Some, in-default}
+use Rattle.undo.proofs.ledger.Ledger.scan.Goals.{in-Some, in_default}
 
 pub loop-i-init : goal.loop-i-init
 loop-i-init c =
@@ -20,7 +20,7 @@ loop-i-preserved c =
     let es = waiting l.line l.journal.now in
     elim c.match-entry.branch [
       | in-Some w ↦ entry_more c.args.floor c.args.moment c.args.query ps es c.loop-i.i l.line.len w.in-Some.entry c.loop-i.scan _ w.in-Some.ensures (length_waiting_le l.line l.journal.now) (omega (arith, c.requires, l.present.ok.0)) c.loop-i.invariant (w.scan-is ∙ w.scan_entry-scan.ensures)
-      | in-default w ↦ entry_none c.args.floor c.args.moment c.args.query ps es c.loop-i.i c.loop-i.scan _ w.in-default.ensures c.loop-i.invariant w.scan-is
+      | in_default w ↦ entry_none c.args.floor c.args.moment c.args.query ps es c.loop-i.i c.loop-i.scan _ w.in_default.ensures c.loop-i.invariant w.scan-is
     ]
 
 pub returns : goal.returns
