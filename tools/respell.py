@@ -60,6 +60,8 @@ def declared(path):
 
 
 def respell(text, names, fields):
+    aliases = set(re.findall(r"^use \S+ as ([a-z_]+)$", text, re.M)) - {"goal"}
+
     def one(m):
         word, before = m.group(0), text[: m.start()]
         if before.endswith("."):
@@ -67,7 +69,7 @@ def respell(text, names, fields):
             owner = owner.group(1) if owner else ""
             if owner in ("goal", "at"):
                 return word
-            if owner[:1].isupper() and word in names:
+            if (owner[:1].isupper() or owner in aliases) and word in names:
                 return names[word]
             return fields.get(word, word)
         return names.get(word, fields.get(word, word))

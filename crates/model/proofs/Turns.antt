@@ -255,7 +255,7 @@ rows_past o (e ∷ h) row a =
     let top : latest_of o (e ∷ h) ≡ latest_of o h + 1 = cond-true (is_write e.reply) _ _ w in
     ⊎_elim (λ old. let l = rows_past o h row old in omega arith)
     (λ new. let was = among_mapped (λ (c : Change). record { moment = latest_of o h + 1; tag = change_tag c }) row e.changes new in let m = ap (λ (r : Row). r.moment) was.2 in omega arith)
-    (members.among-append row (rows_of o h) (rows_of_write (latest_of o h + 1) e.changes) (subst (Among row) (rows_new o h e w) a)))
+    (members.among_append row (rows_of o h) (rows_of_write (latest_of o h + 1) e.changes) (subst (Among row) (rows_new o h e w) a)))
     (λ (w : is_write e.reply ≡ false).
     let same : latest_of o (e ∷ h) ≡ latest_of o h = cond-false (is_write e.reply) _ _ w in
     let l = rows_past o h row (subst (Among row) (cond-false (is_write e.reply) _ _ w) a) in omega arith)
@@ -304,7 +304,7 @@ deliver_core p o h e hall row rows entries core w none first closes =
     let under = rows_past o h row parts.0 in
     let late : T + 1 ≤ hall.db.latest = let y = core.latest in omega arith in
     let all : (r : Row) → Among r (rows_of o h) → r.moment ≡ T + 1 → Among r (filter (is_of (T + 1)) books.rows) =
-    λ r a is. members.among-kept (is_of (T + 1)) r books.rows (subst (Among r) (sym core.stream) (members.among-kept (λ row. ltb T row.moment) r (rows_of o h) a (lt-ltb T r.moment (omega arith)))) (eq-eqb r.moment (T + 1) is) in
+    λ r a is. members.among_kept (is_of (T + 1)) r books.rows (subst (Among r) (sym core.stream) (members.among_kept (λ row. ltb T row.moment) r (rows_of o h) a (lt-ltb T r.moment (omega arith)))) (eq-eqb r.moment (T + 1) is) in
     let hall' : Hall = record { db = hall.db; entries = entries; books = with_stream (T + 1) (filter (λ other. not (is_of (T + 1) other)) books.rows) books } in
     let core' : Core p o h hall' = record {
       latest = core.latest;
@@ -394,7 +394,7 @@ sweep_core p o h e now age hall db entries lowest core sound w none unpins drops
     let some = holders_some m t books.txs a b in
     let young : is_old now age x.0 ≡ false =
     ⊎_elim (λ (y : is_old now age x.0 ≡ true). let z = old_unused now age x.0 y in let v = ap (λ k. holders k books.txs) x.2 in absurd (omega arith)) (λ (y : is_old now age x.0 ≡ false). y) (cases_Bool (is_old now age x.0)) in
-    ap (λ k. among k (moments pins')) (sym x.2) ∙ pin_moment x.0 pins' (members.among-kept (λ pin. not (is_old now age pin)) x.0 pins x.1 (not_from_false _ young)))
+    ap (λ k. among k (moments pins')) (sym x.2) ∙ pin_moment x.0 pins' (members.among_kept (λ pin. not (is_old now age pin)) x.0 pins x.1 (not_from_false _ young)))
     (λ t a. inr a) in
     let core₂ = core_entries p o h (record { db = db; entries = hall.entries; books = with_transactions pins' books.txs books }) entries core₁ (λ x a. core₁.entries x (drops.only x a).0) in
     core_append p o h e (record { db = db; entries = entries; books = with_transactions pins' books.txs books }) w (gives_nothing p o h e books.next books.txs none) core₂
