@@ -1,14 +1,12 @@
 -- A reading rests on the records that its query's tag touches, and is one.
-use Rattle.std.proofs.Common.{◌≡◌, ℕ, Bool, true, false, cond, ◌&&◌, eqb, List, [], ◌∷◌, Some, None, Option, sym, refl, ap, ◌∙◌, subst, arith}
+use Rattle.std.proofs.Common.{◌≡◌, ℕ, cond, None, Option, sym, ap, ◌∙◌, subst, arith}
 use Rattle.std.proofs.lemmas.Bool.Decides.{nat_tests}
-use Rattle.std.proofs.lemmas.Bool.{eq-eqb}
 use Rattle.terms.specs.declared.record.Value.{Value}
 use Rattle.terms.specs.declared.record.Query.{Query}
 use Rattle.terms.specs.declared.record.Query.TheVariants.{Get, Tally}
 use Rattle.terms.specs.declared.tag.Tag.{Tag}
-use Rattle.terms.specs.Records.{Reading, known_table, shown, query_tag}
-use Rattle.terms.specs.Tags.{touches}
-use Rattle.database.specs.States.{Records, seen, in_state, KeysIn, Reads, Agree, ReadsAlike, ReadsOne, tallied}
+use Rattle.terms.specs.Records.{known_table, shown, query_tag}
+use Rattle.database.specs.States.{Records, seen, in_state, ReadsAlike, ReadsOne}
 use Rattle.database.proofs.Sets.{same_tally}
 
 seen_alike : (one other : Records) (table key : ℕ) → one table key ≡ other table key → seen one table key ≡ seen other table key

@@ -1,17 +1,16 @@
 -- What a query reads of a list of present records is what it reads in the state that they hold.
-use Rattle.std.proofs.Common.{◌≡◌, ℕ, ◌≤◌, Bool, true, false, cond, not, ◌&&◌, ◌||◌, eqb, ◌⊎◌, List, [], ◌∷◌, map, length, Some, None, filter, Option, sym, refl, ap, ◌∙◌, inl, inr, ⊎_elim, arith}
+use Rattle.std.proofs.Common.{◌≡◌, ℕ, ◌≤◌, true, false, List, [], ◌∷◌, map, length, filter, sym, refl, ap, ◌∙◌, ⊎_elim, arith}
 use Rattle.std.proofs.lemmas.Bool.Decides.{nat_tests}
-use Rattle.std.proofs.lemmas.Bool.{cases_Bool, eqb-true, both_ways}
+use Rattle.std.proofs.lemmas.Bool.{cases_Bool}
 use Rattle.std.proofs.lemmas.List.{length-map}
 use Rattle.std.proofs.lemmas.List.Sums.{length-filter, count_by-le-length}
 use Rattle.terms.specs.declared.record.RecordId.{RecordId}
-use Rattle.terms.specs.declared.record.Value.{Value}
 use Rattle.terms.specs.declared.record.Row.{Row}
 use Rattle.terms.specs.declared.record.Query.{Query}
 use Rattle.terms.specs.declared.record.Query.TheVariants.{Get, Tally}
 use Rattle.terms.specs.Records.{is_id, known_table, shown}
-use Rattle.database.specs.Lists.{any, among, distinct}
-use Rattle.database.specs.States.{seen, in_state, KeysIn, Reads, tallied}
+use Rattle.database.specs.Lists.{among, distinct}
+use Rattle.database.specs.States.{seen, in_state, KeysIn, Reads}
 use Rattle.database.specs.Rows.{holding, present, unique, matches, first_shown, read_rows}
 use Rattle.database.proofs.Sets.{length_below}
 

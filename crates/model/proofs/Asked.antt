@@ -1,5 +1,5 @@
 -- Calls and queries keep what is carried.
-use Rattle.std.proofs.Common.{◌≡◌, ℕ, zero, suc, ◌<◌, true, false, ltb, ◌⊎◌, List, [], ◌∷◌, length, Some, None, Ok, sym, refl, ap, ◌∙◌, subst, ⊎_elim, arith, lit<}
+use Rattle.std.proofs.Common.{◌≡◌, ℕ, zero, suc, ◌<◌, true, false, ltb, List, [], ◌∷◌, length, Some, None, Ok, sym, refl, ap, ◌∙◌, subst, ⊎_elim, arith, lit<}
 use Rattle.std.proofs.lemmas.Bool.{both_ways, lt-ltb, and_parts, or_right, or_left, eqb-true, eq-eqb}
 use Rattle.terms.specs.Records.{Reading}
 use Rattle.terms.specs.Intervals.{contains}
@@ -7,7 +7,7 @@ use Rattle.database.specs.Lists.{among}
 use Rattle.database.specs.States.{Records, Reads}
 use Rattle.cache.specs.Lists.{Among}
 use Rattle.recipe.specs.Recipes.{Rules, Gives}
-use Rattle.model.specs.Books.{Pin, Frame, Transaction, Hall, whole_part, fresh_frame, moments, find, replaced, with_transactions}
+use Rattle.model.specs.Books.{Pin, Frame, Transaction, Hall, whole_part, fresh_frame, find, replaced, with_transactions}
 use Rattle.model.specs.Rules.{narrowed, Picks}
 use Rattle.model.specs.Traces.{Origin, Event, is_write}
 use Rattle.model.proofs.Claims.{Claim}

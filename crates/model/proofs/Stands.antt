@@ -1,5 +1,5 @@
 -- The law stands after every list of calls.
-use Rattle.std.proofs.Common.{◌⊎◌, refl, ◌∙◌, inl, inr, ⊎_elim}
+use Rattle.std.proofs.Common.{refl, ◌∙◌, inl, inr, ⊎_elim}
 use Rattle.std.proofs.lemmas.Bool.{cases_Bool}
 use Rattle.model.specs.Law.{LawStands}
 use Rattle.model.proofs.Lives.{carried}

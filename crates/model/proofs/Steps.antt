@@ -1,5 +1,5 @@
 -- Narrowing and choosing keep what is carried.
-use Rattle.std.proofs.Common.{◌≡◌, ℕ, ◌<◌, true, false, eqb, ◌⊎◌, List, [], ◌∷◌, map, Some, filter, sym, refl, ap, ◌∙◌, subst, ⊎_elim}
+use Rattle.std.proofs.Common.{◌≡◌, ℕ, ◌<◌, true, false, eqb, List, [], ◌∷◌, map, Some, filter, sym, refl, ap, ◌∙◌, subst, ⊎_elim}
 use Rattle.std.proofs.lemmas.Bool.{cases_Bool, both_ways, cond-true, cond-false, and_from, and_parts, or_right, eq-eqb}
 use Rattle.terms.specs.Intervals.{contains}
 use Rattle.database.specs.Lists.{among, distinct}
@@ -8,7 +8,7 @@ use Rattle.database.specs.Databases.{Db, held}
 use Rattle.database.proofs.Sets.{among_kept}
 use Rattle.recipe.specs.Recipes.{Rules}
 use Rattle.model.specs.Books.{Pin, Part, Frame, Transaction, Hall, whole_part, find, replaced}
-use Rattle.model.specs.Rules.{narrowed, cut, pinned}
+use Rattle.model.specs.Rules.{narrowed, cut}
 use Rattle.model.specs.Calls.{Given, with_tx, with_frames}
 use Rattle.model.specs.Traces.{Origin, Event, is_write, records_at}
 use Rattle.model.specs.Law.{Right}

@@ -1,12 +1,11 @@
 -- Begin, end, write, deliver and sweep keep what is carried.
-use Rattle.std.proofs.Common.{◌≡◌, ℕ, ◌+◌, ◌<◌, ◌≤◌, Bool, true, false, cond, not, ◌&&◌, ◌||◌, eqb, ltb, ◌⊎◌, List, [], ◌∷◌, ◌++◌, map, Some, None, filter, Option, sym, refl, ap, ◌∙◌, subst, inl, inr, ⊎_elim, arith}
+use Rattle.std.proofs.Common.{◌≡◌, ℕ, ◌+◌, ◌<◌, ◌≤◌, Bool, true, false, cond, not, ◌&&◌, ◌||◌, eqb, ltb, List, [], ◌∷◌, ◌++◌, map, Some, None, filter, Option, sym, refl, ap, ◌∙◌, subst, inl, inr, ⊎_elim, arith}
 use Rattle.std.proofs.lemmas.Bool.{cases_Bool, both_ways, cond-true, cond-false, ltb-true, ltb-false, lt-ltb, le-ltb, and_from, and_parts, or_cases, or_right, or_left, or_from, eqb-true, eqb-false, eq-eqb, ne_eqb, not-true, not_from_true, not_from_false}
 use Rattle.database.specs.Lists.{among, distinct, without}
 use Rattle.database.specs.States.{Records}
 use Rattle.cache.specs.Lists.{Among}
 use Rattle.recipe.specs.Recipes.{Rules, Gives}
 use Rattle.model.specs.Books.{Pin, Transaction, Row, Hall, moments, find, removed, with_transactions}
-use Rattle.model.specs.Rules.{pinned}
 use Rattle.model.specs.Traces.{Origin, Event, is_write, latest_of, records_at, rows_of}
 use Rattle.model.specs.Law.{Right, numbers, holders}
 use Rattle.model.proofs.Claims.{Claim}
@@ -16,7 +15,7 @@ use Rattle.terms.specs.declared.record.Value.{Value}
 use Rattle.terms.specs.Records.{is_id, change_id, change_value, change_tag}
 use Rattle.database.specs.Writes.{put, changed}
 use Rattle.database.specs.Databases.{Db, held, Sound, Written}
-use Rattle.database.proofs.Sets.{among_kept, among_none, distinct_without}
+use Rattle.database.proofs.Sets.{among_none, distinct_without}
 use Rattle.cache.specs.declared.entry.Entry.{Entry}
 use Rattle.cache.specs.Calls.{Drops}
 use Rattle.cache.specs.Entries.{closed, closes}

@@ -1,5 +1,5 @@
 -- What the sheets of the two recipes are worth.
-use Rattle.std.proofs.Common.{◌≡◌, ℕ, suc, ◌<◌, true, false, ltb, leb, ◌⊎◌, List, [], Some, None, MatchBool, Option, sym, refl, ap, ◌∙◌, subst, ⊎_elim, arith, lit<}
+use Rattle.std.proofs.Common.{◌≡◌, ℕ, suc, true, false, ltb, leb, List, [], Some, None, MatchBool, Option, sym, refl, ap, ◌∙◌, subst, ⊎_elim, arith, lit<}
 use Rattle.std.proofs.lemmas.Bool.{cases_Bool, both_ways, cond-true, cond-false}
 use Rattle.terms.specs.declared.record.Value.{Value}
 use Rattle.terms.specs.declared.record.Query.TheVariants.{Tally}

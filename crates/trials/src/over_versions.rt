@@ -1,6 +1,6 @@
 // The trials over the version store.
 use crate::hall::{delete, fault_of, get, read_of, set, spend_day};
-use crate::sheets::{boards, claims, claims_of_others, patient_recipes, stubborn_recipes};
+use crate::sheets::{boards, claims, claims_of_others, odd_recipes, unknown_before_deep};
 use crate::stores::{refuses, refuses_at_the_end, refuses_pins, tallies, tells_intervals};
 use database::Database;
 use std::test::Fail;
@@ -84,8 +84,8 @@ fn values_of_sheets(rt: HostRuntime) -> Result<(), Fail> {
     spend_day(&rt, &mut store);
     claims(&rt, &store);
     boards(&rt, &store);
-    stubborn_recipes(&rt, &store);
-    patient_recipes(&rt, &store);
+    odd_recipes(&rt, &store);
+    unknown_before_deep(&rt, &store);
     claims_of_others(&rt, &mut made(&rt, 6, 10)?);
     Ok(())
 }

@@ -81,48 +81,60 @@ pub fn claims_of_others<D: Database>(rt: &impl Abort, store: &mut D) {
     }
 }
 
-fn called(sheet: u8) -> Ask {
-    Ask::Call { sheet, argument: 1 }
-}
-
-fn asked(table: u8) -> Ask {
-    Ask::Query {
-        query: tally(table, 0),
-    }
-}
-
-// For a store after its day: recipes that answer the same at every point.
-pub fn stubborn_recipes<D: Database>(rt: &impl Abort, store: &D) {
-    let reading = Some((7, 8));
-    // the answer, and the depth
-    let cases = [
-        (called(0), 40, (None, 22)),
-        (called(1), 40, (None, 21)),
-        (called(1), 0, (None, 21)),
-        (asked(0), 0, (None, 23)),
-        (asked(8), 0, (None, 24)),
-        (Ask::Done { reading }, 0, (reading, 0)),
+// For a store after its day.
+pub fn odd_recipes<D: Database>(rt: &impl Abort, store: &D) {
+    let stubborn = [
+        (
+            Ask::Call {
+                sheet: 0,
+                argument: 1,
+            },
+            (None, 22),
+        ),
+        (
+            Ask::Call {
+                sheet: 1,
+                argument: 0,
+            },
+            (None, 21),
+        ),
+        (Ask::Query { query: tally(0, 0) }, (None, 23)),
+        (Ask::Query { query: tally(8, 0) }, (None, 24)),
+        (
+            Ask::Done {
+                reading: Some((7, 8)),
+            },
+            (Some((7, 8)), 0),
+        ),
     ];
-    for (ask, depth, wanted) in cases {
+    for (ask, wanted) in stubborn {
         assert_eq!(rt;
-            worth_of(evaluate(store, &Stubborn { ask }, 13, 0, 0, depth)),
+            worth_of(evaluate(store, &Stubborn { ask }, 13, 0, 0, 40)),
             wanted
         );
     }
-}
-
-// For a store after its day: with the 32nd answer a recipe has to be done.
-pub fn patient_recipes<D: Database>(rt: &impl Abort, store: &D) {
-    let cases = [
+    // with the 32nd answer it has to be done
+    for (times, wanted) in [
         (0, (None, 0)),
         (1, (Some((1, 5)), 0)),
         (31, (Some((1, 5)), 0)),
         (32, (None, 23)),
-    ];
-    for (times, wanted) in cases {
+    ] {
         assert_eq!(rt;
             worth_of(evaluate(store, &Patient { times }, 13, 0, 0, 0)),
             wanted
         );
     }
+}
+
+// For a store after its day: that a sheet is not there is told before its depth is used up.
+pub fn unknown_before_deep<D: Database>(rt: &impl Abort, store: &D) {
+    let ask = Ask::Call {
+        sheet: 1,
+        argument: 1,
+    };
+    assert_eq!(rt;
+        worth_of(evaluate(store, &Stubborn { ask }, 13, 0, 0, 0)),
+        (None, 21)
+    );
 }

@@ -1,26 +1,23 @@
 -- The answer of the undo store is one that a database gives.
-use Rattle.std.proofs.Common.{◌≡◌, ℕ, ◌+◌, ◌≤◌, Bool, true, false, cond, ◌&&◌, ltb, leb, ◌⊎◌, List, [], ◌∷◌, ◌++◌, length, Some, None, filter, Option, sym, refl, ap, ◌∙◌, subst, ⊎_elim, arith}
+use Rattle.std.proofs.Common.{◌≡◌, ℕ, ◌≤◌, Bool, true, false, cond, ◌&&◌, ltb, leb, List, [], ◌∷◌, ◌++◌, Some, None, filter, Option, sym, refl, ap, ◌∙◌, subst, ⊎_elim, arith}
 use Rattle.std.proofs.lemmas.Bool.Decides.{nat_tests as telling}
 use Rattle.std.proofs.lemmas.Bool.{cases_Bool, cond-true, cond-false, leb-true, le-leb, ltb-false, and_from, and_parts, or_cases, or_right, or_left, eqb-true, eq-eqb, not-true}
-use Rattle.terms.specs.declared.record.RecordId.{RecordId}
-use Rattle.terms.specs.declared.record.Value.{Value}
-use Rattle.terms.specs.declared.record.Row.{Row}
 use Rattle.terms.specs.declared.record.Query.{Query}
-use Rattle.terms.specs.Records.{is_id, query_tag}
+use Rattle.terms.specs.Records.{query_tag}
 use Rattle.database.specs.declared.Answer.{Answer}
 use Rattle.database.specs.Lists.{every, among}
-use Rattle.database.specs.States.{Records, Reads}
-use Rattle.database.specs.Rows.{holding, present, matches, read_matched, read_rows, unique}
+use Rattle.database.specs.States.{Reads}
+use Rattle.database.specs.Rows.{holding, matches, read_matched, read_rows}
 use Rattle.database.specs.Turns.{between}
 use Rattle.database.specs.Databases.{held, Answers}
 use Rattle.database.proofs.Rows.{reads_rows}
 use Rattle.database.proofs.Readings.{reads_alike}
 use Rattle.database.proofs.Turns.{Alike, among_append, every_append, every_among, between_inside, between_alike, between_known}
-use Rattle.undo.specs.Soundness.{held_floor, only, only_few, rows_hold, rows_unique, shown_from}
+use Rattle.undo.specs.Soundness.{held_floor, rows_hold, rows_unique}
 use Rattle.undo.specs.declared.entry.Entry.{Entry}
 use Rattle.undo.specs.declared.entry.Version.{Version}
 use Rattle.undo.specs.Journals.{state_at}
-use Rattle.undo.specs.Versions.{versions, is_told, replacements, turns_by, turns_among, turns_of, lasts, visible, rows_at, replaced_upto, dated, rightly, values_in}
+use Rattle.undo.specs.Versions.{versions, is_told, replacements, turns_by, turns_among, turns_of, lasts, visible, rows_at, replaced_upto, dated, rightly}
 use Rattle.undo.specs.Scans.{is_above, found}
 use Rattle.database.specs.Scans.{scan_answer}
 use Rattle.undo.specs.Stores.{Store, meaning, validity, Good}

@@ -1,32 +1,26 @@
 -- What each call makes of the store is what a database means by it.
-use Rattle.std.proofs.Common.{◌≡◌, ℕ, ◌+◌, ◌-◌, ◌<◌, ◌≤◌, Bool, true, false, cond, not, ◌&&◌, eqb, ltb, leb, ◌⊎◌, List, [], ◌∷◌, map, length, drop, Some, None, vec_items, Option, sym, refl, ap, ◌∙◌, subst, ⊎_elim, arith}
+use Rattle.std.proofs.Common.{◌≡◌, ℕ, ◌+◌, ◌-◌, ◌<◌, ◌≤◌, Bool, true, false, not, ◌&&◌, eqb, ltb, leb, List, [], ◌∷◌, length, drop, Some, None, vec_items, Option, sym, refl, ap, ◌∙◌, subst, ⊎_elim, arith}
 use Rattle.std.proofs.lemmas.Bool.Decides.{nat_tests as telling}
 use Rattle.std.proofs.lemmas.Bool.{cases_Bool, leb-true, le-leb, and_from, and_parts, or_right, or_left, eq-eqb}
-use Rattle.std.proofs.lemmas.List.{length-append, length-map}
-use Rattle.std.specs.List.{flat_map}
 use Rattle.terms.specs.declared.record.Change.{Change}
 use Rattle.terms.specs.declared.fault.Fault.{Fault}
-use Rattle.terms.specs.declared.record.Value.{Value}
 use Rattle.terms.specs.Moments.{highest, is_moment}
-use Rattle.terms.specs.Records.{known_table}
 use Rattle.database.specs.Lists.{every, among, added, without}
-use Rattle.database.specs.States.{Records, seen, in_state, KeysIn}
 use Rattle.database.specs.Rows.{holding, unique}
-use Rattle.database.specs.Databases.{held, Sound, Written}
-use Rattle.database.specs.Writes.{changed, refusal, wrong_list, no_room, or_else}
+use Rattle.database.specs.Databases.{Written}
+use Rattle.database.specs.Writes.{refusal, wrong_list, no_room, or_else}
 use Rattle.database.proofs.Sets.{least_among, least_below}
-use Rattle.database.proofs.Rows.{keys_in, few_keys}
 use Rattle.database.proofs.Turns.{every_among, every_append, every_kept}
 use Rattle.line.specs.Rings.{waiting}
-use Rattle.line.proofs.Rings.{length_waiting_le, length_waiting_fits, waiting_none}
-use Rattle.undo.specs.Soundness.{few_rows, good, held_floor, joined_few, rows_hold, rows_unique}
+use Rattle.line.proofs.Rings.{length_waiting_fits, waiting_none}
+use Rattle.undo.specs.Soundness.{good}
 use Rattle.undo.specs.declared.entry.Present.{Present}
 use Rattle.undo.specs.declared.entry.Entry.{Entry}
 use Rattle.undo.specs.declared.ledger.Ledger.{Ledger}
 use Rattle.undo.specs.declared.store.UndoStore.{UndoStore}
 use Rattle.undo.specs.Ledgers.{Grown}
 use Rattle.undo.specs.Journals.{undone, later, rows_of, state_at, present_after_all, entries_after_all, ascending}
-use Rattle.undo.specs.Versions.{current, replaced_by, versions, rows_at, dated, rightly, is_shown}
+use Rattle.undo.specs.Versions.{versions, dated, rightly, is_shown}
 use Rattle.undo.specs.Stores.{Store, store_from, store_of, empty_at, in_range, meaning, lowest, needed_of, written, Good}
 use Rattle.undo.proofs.Undoing.{later_later, states_before, state_late, changed_same, put_presents, commits_later, commits_changes, ascending_later, ascending_changes, newest}
 use Rattle.undo.proofs.Telling.{dated_part, dated_changes, told_part, told_changes}

@@ -1,5 +1,5 @@
 -- What changes and discarding make of the versions that present records and entries tell.
-use Rattle.std.proofs.Common.{◌≡◌, ℕ, ◌+◌, ◌-◌, ◌<◌, ◌≤◌, Bool, true, false, cond, ◌&&◌, ◌||◌, eqb, ltb, ◌⊎◌, List, [], ◌∷◌, ◌++◌, map, Some, None, filter, Option, sym, refl, ap, ◌∙◌, ⊎_elim, arith}
+use Rattle.std.proofs.Common.{◌≡◌, ℕ, ◌+◌, ◌<◌, ◌≤◌, Bool, true, false, cond, ◌&&◌, ◌||◌, eqb, ltb, List, [], ◌∷◌, ◌++◌, map, Some, None, filter, Option, sym, refl, ap, ◌∙◌, ⊎_elim, arith}
 use Rattle.std.proofs.lemmas.Bool.Decides.{nat_tests as telling}
 use Rattle.std.proofs.lemmas.Bool.{cases_Bool, cond-true, cond-false, leb-true, le-leb, ltb-true, ltb-false, lt-ltb, ne_eqb, eq-eqb, and_from, and_parts, and_right, or_left, or_right, or_from, not_from_false, not-true}
 use Rattle.std.proofs.lemmas.List.{append-nil, append_assoc, map-append}
@@ -10,8 +10,6 @@ use Rattle.terms.specs.declared.record.Change.{Change}
 use Rattle.terms.specs.declared.record.Change.TheVariants.{Set, Delete}
 use Rattle.terms.specs.Records.{is_id, change_id}
 use Rattle.database.specs.Lists.{every}
-use Rattle.database.specs.States.{Records}
-use Rattle.database.specs.Rows.{present}
 use Rattle.database.proofs.Rows.{same_id}
 use Rattle.database.proofs.Turns.{every_append, every_weaker}
 use Rattle.undo.specs.declared.entry.Held.{Held}

@@ -2,11 +2,10 @@
 use Rattle.database.proofs.Rows.{few_keys, keys_in}
 use Rattle.database.proofs.Turns.{every_among}
 use Rattle.database.specs.Databases.{Sound, held}
-use Rattle.database.specs.Lists.{every}
 use Rattle.database.specs.Rows.{holding, present, unique}
 use Rattle.database.specs.States.{KeysIn, Records, in_state, seen}
 use Rattle.line.proofs.Rings.{length_waiting_le}
-use Rattle.std.proofs.Common.{ℕ, ⊎_elim, List, None, Option, Some, [], ap, arith, cond, eqb, false, filter, leb, length, map, refl, sym, true, ◌&&◌, ◌+◌, ◌-◌, ◌∙◌, ◌∷◌, ◌≡◌, ◌≤◌, ◌⊎◌}
+use Rattle.std.proofs.Common.{ℕ, ⊎_elim, List, None, Option, Some, [], ap, arith, cond, eqb, false, filter, leb, length, map, refl, sym, true, ◌&&◌, ◌+◌, ◌∙◌, ◌∷◌, ◌≡◌, ◌≤◌}
 use Rattle.std.proofs.lemmas.Bool.{and_from, cases_Bool, cond-true, eq-eqb, le-leb, leb-true}
 use Rattle.std.proofs.lemmas.Bool.Decides.{nat_tests as telling}
 use Rattle.std.proofs.lemmas.List.{length-append, length-map}

@@ -1,19 +1,19 @@
 -- The answer of the version store is one that a database gives.
-use Rattle.std.specs.Prelude.{◌≡◌, ℕ, ◌+◌, ◌<◌, ◌≤◌, min, max, Bool, true, false, cond, not, ◌&&◌, ◌||◌, ltb, leb, ◌⊎◌, List, [], ◌∷◌, ◌++◌, map, length, Some, None, filter, Option, ◌==◌, nat_le, nat_lt, refl}
-use Rattle.std.proofs.Common.{sym, ap, ◌∙◌, subst, inl, inr, ⊎_elim, arith}
+use Rattle.std.specs.Prelude.{◌≡◌, ℕ, ◌<◌, ◌≤◌, Bool, true, cond, ◌&&◌, ◌||◌, ltb, leb, List, [], ◌∷◌, ◌++◌, Some, None, filter, Option, ◌==◌, nat_le, nat_lt, refl}
+use Rattle.std.proofs.Common.{sym, ap, ◌∙◌, subst, ⊎_elim, arith}
 use Rattle.std.proofs.lemmas.Bool.Decides.{nat_tests}
-use Rattle.std.proofs.lemmas.Bool.{cases_Bool, cond-true, cond-false, leb-true, leb-false, le-leb, lt-leb, ltb-true, lt-ltb, and_from, and_parts, or_cases, or_right, or_left, eqb-true}
+use Rattle.std.proofs.lemmas.Bool.{cases_Bool, cond-false, leb-true, leb-false, le-leb, lt-leb, ltb-true, lt-ltb, and_from, and_parts, or_cases, or_right, or_left, eqb-true}
 use Rattle.std.specs.List.{flat_map}
 use Rattle.terms.specs.declared.record.Query.{Query}
-use Rattle.terms.specs.Intervals.{contains, reaches}
-use Rattle.database.specs.Lists.{any, every, among, least}
+use Rattle.terms.specs.Intervals.{reaches}
+use Rattle.database.specs.Lists.{every, among, least}
 use Rattle.database.specs.States.{Reads}
-use Rattle.database.specs.Rows.{matches, read_matched, read_rows, unique}
+use Rattle.database.specs.Rows.{matches, read_matched}
 use Rattle.database.specs.Databases.{held, Known, Answers}
 use Rattle.database.proofs.Rows.{reads_rows}
 use Rattle.database.proofs.Sets.{among_kept, least_among, least_below}
 use Rattle.versions.specs.declared.version.Version.{Version}
-use Rattle.versions.specs.Versions.{lasts, visible, rows_at, state_at, turns, turns_of, replacements, greatest, smallest, first_of, end_of, until_of, validity, dated, replaced_by}
+use Rattle.versions.specs.Versions.{lasts, visible, rows_at, state_at, turns, turns_of, replacements, greatest, smallest, first_of, end_of, until_of, dated, replaced_by}
 use Rattle.versions.specs.Stores.{Store, meaning, answer_at, Good}
 
 pub every_among : (p : ℕ → Bool) (xs : List ℕ) (x : ℕ) → every p xs ≡ true → among x xs ≡ true → p x ≡ true

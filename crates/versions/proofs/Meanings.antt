@@ -1,24 +1,22 @@
 -- What each call makes of the store is what a database means by it.
-use Rattle.std.specs.Prelude.{◌≡◌, ℕ, ◌+◌, ◌-◌, ◌<◌, ◌≤◌, Bool, true, false, cond, not, ◌&&◌, ◌||◌, ◌⊎◌, List, [], ◌∷◌, ◌++◌, length, Some, None, filter, Option, ◌==◌, nat_le, refl}
-use Rattle.std.proofs.Common.{sym, ap, ◌∙◌, subst, inl, inr, ⊎_elim, arith}
+use Rattle.std.specs.Prelude.{◌≡◌, ℕ, ◌+◌, ◌<◌, ◌≤◌, Bool, true, false, not, List, [], ◌∷◌, length, Some, None, filter, Option, ◌==◌, nat_le, refl}
+use Rattle.std.proofs.Common.{sym, ap, ◌∙◌, subst, ⊎_elim, arith}
 use Rattle.std.proofs.lemmas.Bool.Decides.{nat_tests}
-use Rattle.std.proofs.lemmas.Bool.{cases_Bool, leb-true, le-leb, ltb-true, ltb-false, and_from, and_parts, or_cases, or_right, or_left, cond-true, cond-false, eq-eqb}
-use Rattle.std.proofs.lemmas.List.{length-map}
+use Rattle.std.proofs.lemmas.Bool.{cases_Bool, leb-true, le-leb, and_from, and_parts, or_right, or_left, eq-eqb}
 use Rattle.std.proofs.lemmas.List.Sums.{length-filter, count_by-le-length}
 use Rattle.terms.specs.declared.record.Change.{Change}
 use Rattle.terms.specs.declared.fault.Fault.{Fault}
 use Rattle.terms.specs.Moments.{highest}
 use Rattle.database.specs.Lists.{every, among, added, without}
 use Rattle.database.specs.Rows.{holding, unique}
-use Rattle.database.specs.Databases.{Db, held, Sound, Pinned, can_pin, Unpins, UnpinsAll, Written}
+use Rattle.database.specs.Databases.{Pinned, can_pin, Unpins, UnpinsAll, Written}
 use Rattle.database.specs.Writes.{changed, refusal, wrong_list, no_room, or_else}
 use Rattle.database.proofs.Sets.{among_added, among_without}
-use Rattle.database.proofs.Rows.{few_keys, keys_in}
-use Rattle.versions.specs.Versions.{visible, rows_at, state_at, needed, changed_by_all, dated}
+use Rattle.versions.specs.Versions.{rows_at, needed, changed_by_all, dated}
 use Rattle.versions.specs.declared.version.Version.{Version}
 use Rattle.versions.specs.Soundness.{good}
-use Rattle.versions.specs.Stores.{Store, store_of, meaning, needed_of, pinned, unpinned, unpinned_all, written, Good}
-use Rattle.versions.proofs.Asking.{every_among, every_append, held_past}
+use Rattle.versions.specs.Stores.{Store, meaning, needed_of, pinned, unpinned, unpinned_all, written, Good}
+use Rattle.versions.proofs.Asking.{every_append, held_past}
 use Rattle.versions.proofs.Writing.{rows_needed, rows_before, rows_late, rows_changes, dated_part, dated_changes, apart_changes, unique_part}
 
 pub pins_latest : (s : Store) → can_pin (meaning s) ≡ true → Pinned (meaning s) s.latest (meaning (pinned s))

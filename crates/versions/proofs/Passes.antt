@@ -1,5 +1,5 @@
 -- A pass over versions finds what the definitions say.
-use Rattle.std.proofs.Common.{◌≡◌, ℕ, ◌+◌, ◌<◌, ◌≤◌, min, max, Bool, true, false, cond, ◌&&◌, ltb, leb, ◌⊎◌, List, [], ◌∷◌, ◌++◌, map, length, get_or, take, Some, None, filter, Option, sym, refl, ap, ◌∙◌, subst, inl, inr, ⊎_elim, add-one, arith}
+use Rattle.std.proofs.Common.{◌≡◌, ℕ, ◌+◌, ◌<◌, min, max, Bool, true, false, cond, ltb, leb, List, [], ◌∷◌, ◌++◌, map, length, get_or, take, Some, None, filter, Option, sym, refl, ap, ◌∙◌, subst, ⊎_elim, arith}
 use Rattle.std.proofs.lemmas.Bool.Decides.{nat_tests}
 use Rattle.std.proofs.lemmas.Bool.{cases_Bool, cond-true, cond-false}
 use Rattle.std.proofs.lemmas.List.{take_more, append_assoc, append-nil, map-append, length-append, length-map, length-take}
@@ -12,7 +12,7 @@ use Rattle.terms.specs.declared.record.Query.TheVariants.{Get, Tally}
 use Rattle.terms.specs.Records.{Reading}
 use Rattle.database.specs.Lists.{least}
 use Rattle.database.specs.States.{tallied}
-use Rattle.database.specs.Rows.{matches, first_shown, read_matched, read_rows}
+use Rattle.database.specs.Rows.{matches, read_matched, read_rows}
 use Rattle.versions.specs.declared.version.Version.{Version}
 use Rattle.versions.specs.declared.scan.Scan.{Scan}
 use Rattle.versions.specs.Versions.{visible, rows_at, turns, turns_of, greatest, smallest, first_of, end_of, replacements}

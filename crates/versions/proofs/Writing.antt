@@ -1,8 +1,8 @@
 -- What a write makes of the kept versions is what a database means by it.
-use Rattle.std.specs.Prelude.{◌≡◌, ℕ, ◌+◌, ◌<◌, ◌≤◌, Bool, true, false, cond, not, ◌&&◌, ◌||◌, leb, ◌⊎◌, List, [], ◌∷◌, ◌++◌, map, length, Some, None, filter, Option, ◌==◌, nat_le, nat_lt, refl}
-use Rattle.std.proofs.Common.{sym, ap, ◌∙◌, subst, inl, inr, ⊎_elim, arith}
+use Rattle.std.specs.Prelude.{◌≡◌, ℕ, ◌+◌, ◌<◌, ◌≤◌, Bool, true, false, cond, not, ◌&&◌, ◌||◌, leb, List, [], ◌∷◌, ◌++◌, map, Some, None, filter, Option, ◌==◌, nat_le, nat_lt, refl}
+use Rattle.std.proofs.Common.{sym, ap, ◌∙◌, ⊎_elim, arith}
 use Rattle.std.proofs.lemmas.Bool.Decides.{nat_tests}
-use Rattle.std.proofs.lemmas.Bool.{cases_Bool, cond-true, cond-false, leb-true, leb-false, le-leb, lt-leb, ltb-true, lt-ltb, le-ltb, and_from, and_parts, and_left, or_cases, or_right, or_left, eqb-true, cases_lt}
+use Rattle.std.proofs.lemmas.Bool.{cases_Bool, leb-true, le-leb, lt-leb, lt-ltb, le-ltb, and_from, and_parts, or_left, eqb-true, cases_lt}
 use Rattle.std.proofs.lemmas.List.{map-append, append-nil}
 use Rattle.std.proofs.lemmas.List.Elements.{filter-append}
 use Rattle.terms.specs.declared.record.RecordId.{RecordId}
@@ -16,8 +16,8 @@ use Rattle.database.specs.States.{Records}
 use Rattle.database.specs.Rows.{holding, present, unique}
 use Rattle.database.specs.Writes.{put, changed}
 use Rattle.versions.specs.declared.version.Version.{Version}
-use Rattle.versions.specs.Versions.{lasts, visible, rows_at, state_at, needed, current, retired, fresh, changed_by, changed_by_all, replaced_by, dated}
-use Rattle.versions.proofs.Asking.{among_append, every_append}
+use Rattle.versions.specs.Versions.{lasts, visible, rows_at, needed, current, retired, fresh, changed_by, changed_by_all, replaced_by, dated}
+use Rattle.versions.proofs.Asking.{every_append}
 
 -- a version visible at a held moment is needed, so the records of a held moment stay
 any_among : (p : ℕ → Bool) (ns : List ℕ) (n : ℕ) → among n ns ≡ true → p n ≡ true → any p ns ≡ true

@@ -1,5 +1,5 @@
 -- One pass over versions: what it has found after some of them, and what one more adds.
-use Rattle.std.specs.Prelude.{ℕ, ◌+◌, ◌<◌, min, max, Bool, cond, List, [], ◌∷◌, Some, None, Option, nat_le}
+use Rattle.std.specs.Prelude.{ℕ, ◌+◌, ◌<◌, min, max, Bool, cond, List, Some, None, Option, nat_le}
 use Rattle.terms.specs.declared.record.Row.{Row}
 use Rattle.terms.specs.declared.record.Query.{Query}
 use Rattle.terms.specs.declared.record.Query.TheVariants.{Get, Tally}

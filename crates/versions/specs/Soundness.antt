@@ -1,5 +1,5 @@
 -- Every version store is a database: the law that its impl has to prove.
-use Rattle.std.specs.Prelude.{◌≡◌, ℕ, length, map, filter, nat_le}
+use Rattle.std.specs.Prelude.{filter, nat_le}
 use Rattle.std.proofs.Common.{arith}
 use Rattle.std.proofs.lemmas.Bool.{leb-true}
 use Rattle.std.proofs.lemmas.List.{length-map}

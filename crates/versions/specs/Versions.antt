@@ -1,5 +1,5 @@
 -- Versions of records: when one is visible, what it matches, and for how long a reading of them is right.
-use Rattle.std.specs.Prelude.{ℕ, ◌+◌, min, max, Bool, true, false, cond, ◌&&◌, ltb, leb, List, [], ◌∷◌, ◌++◌, map, Some, None, filter, Option, nat_le, nat_lt}
+use Rattle.std.specs.Prelude.{ℕ, max, Bool, true, false, cond, ◌&&◌, ltb, leb, List, [], ◌∷◌, ◌++◌, map, Some, None, filter, Option, nat_le, nat_lt}
 use Rattle.std.specs.List.{flat_map}
 use Rattle.terms.specs.declared.record.RecordId.{RecordId}
 use Rattle.terms.specs.declared.record.Row.{Row}

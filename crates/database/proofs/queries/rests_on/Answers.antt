@@ -1,5 +1,4 @@
-use Rattle.std.proofs.Common.{sym}
-use Rattle.database.proofs.Readings.{reads_alike, alike_at}
+use Rattle.database.proofs.Readings.{alike_at}
 use Rattle.database.proofs.queries.rests_on.Goals as goal
 
 pub returns : goal.returns

@@ -1,4 +1,4 @@
-use Rattle.std.proofs.Common.{sym, ap, ◌∙◌, rules}
+use Rattle.std.proofs.Common.{rules}
 use Rattle.database.proofs.Changes.{unknown, repeated, right, all_right}
 use Rattle.database.proofs.writes.wrong_change.Goals as goal
 

@@ -1,6 +1,6 @@
-use Rattle.std.proofs.Common.{sym, ap, ◌∙◌}
+use Rattle.std.proofs.Common.{ap, ◌∙◌}
 use Rattle.std.proofs.lemmas.List.{take_all}
-use Rattle.versions.specs.Scans.{summary, scanned}
+use Rattle.versions.specs.Scans.{summary}
 use Rattle.versions.proofs.Passes.{summary_more, counting}
 use Rattle.versions.proofs.scanning.scan_all.Goals as goal
 

@@ -1,4 +1,4 @@
-use Rattle.std.proofs.Common.{◌+◌, List, drop, vec_items, sym, ap, ◌∙◌, arith, rules}
+use Rattle.std.proofs.Common.{◌+◌, List, drop, vec_items, sym, ap, ◌∙◌, rules}
 use Rattle.versions.specs.declared.version.Version.{Version}
 use Rattle.std.proofs.lemmas.List.{at_drop_more, at_drop_all}
 use Rattle.terms.specs.declared.record.Change.{Change}

@@ -1,4 +1,4 @@
-use Rattle.std.proofs.Common.{vec_items, sym, ap, ◌∙◌, rules}
+use Rattle.std.proofs.Common.{vec_items, sym, ap, ◌∙◌}
 use Rattle.database.specs.Lists.{distinct}
 use Rattle.database.proofs.Sets.{distinct_push}
 use Rattle.database.proofs.pins.Pins.add.Goals as goal

@@ -1,6 +1,5 @@
-use Rattle.std.proofs.Common.{◌≤◌, length, vec_items, sym, ap, ◌∙◌, arith, rules}
-use Rattle.std.proofs.lemmas.List.Sums.{length-filter, count_by-le-length}
-use Rattle.database.specs.Lists.{distinct, without}
+use Rattle.std.proofs.Common.{length, vec_items, ap, ◌∙◌, arith}
+use Rattle.database.specs.Lists.{distinct}
 use Rattle.database.proofs.Sets.{distinct_without, length_without_le}
 use Rattle.database.proofs.pins.Pins.remove.Goals as goal
 

@@ -1,4 +1,4 @@
-use Rattle.std.proofs.Common.{vec_items, sym, refl, ap, ◌∙◌, rules}
+use Rattle.std.proofs.Common.{vec_items, sym, refl, ap, rules}
 use Rattle.versions.specs.Stores.{store_of}
 use Rattle.versions.specs.Soundness.{good}
 use Rattle.versions.proofs.Meanings.{pins_to, pins_mean, pins_either}

@@ -1,7 +1,7 @@
-use Rattle.std.proofs.Common.{◌≡◌, ◌+◌, ◌<◌, ◌≤◌, length, vec_items, filter, sym, ap, ◌∙◌, arith, rules}
+use Rattle.std.proofs.Common.{length, vec_items, filter, sym, ap, ◌∙◌, arith, rules}
 use Rattle.database.specs.Writes.{refusal}
 use Rattle.versions.specs.Versions.{needed}
-use Rattle.versions.specs.Stores.{store_of, needed_of}
+use Rattle.versions.specs.Stores.{store_of}
 use Rattle.versions.specs.Soundness.{good}
 use Rattle.versions.proofs.Meanings.{no_refusal, needed_few, past_later, writes_to, writes_mean, writes_dated, writes_apart}
 use Rattle.versions.proofs.calls.VersionStoreDatabase.write.Goals as goal
