@@ -1,9 +1,9 @@
 -- Laws of lists of numbers as sets.
 use Rattle.std.proofs.Common.{◌≡◌, ℕ, ◌+◌, ◌≤◌, min, Bool, true, false, not, ◌&&◌, ◌||◌, eqb, ◌⊎◌, List, [], ◌∷◌, ◌++◌, length, filter, sym, refl, ap, ◌∙◌, inl, inr, ⊎_elim, add-one, arith}
 use Rattle.std.proofs.lemmas.Bool.Decides.{nat_tests}
-use Rattle.std.proofs.lemmas.Bool.{eqb-true, cases_Bool, cases_lt, or_right}
+use Rattle.std.proofs.lemmas.Bool.{eqb-true, cases_Bool, cases_lt, or_right, and_from, and_parts}
 use Rattle.std.proofs.lemmas.List.Sums.{length-filter, count_by-le-length}
-use Rattle.database.specs.Lists.{among, distinct, least, without, added}
+use Rattle.database.specs.Lists.{every, among, distinct, least, without, added}
 use Rattle.database.specs.States.{tallied}
 
 -- what passes a filter is in the list, and passes
@@ -86,3 +86,43 @@ distinct_push m (x ∷ xs) d a = let ih = distinct_push m xs in let e = among_pu
 
 pub length_without_le : (m : ℕ) (xs : List ℕ) → length (without m xs) ≤ length xs
 length_without_le m xs = omega (arith, length-filter (λ x. not (eqb x m)) xs, count_by-le-length (λ x. not (eqb x m)) xs)
+
+-- tests of every element
+pub every_among : (p : ℕ → Bool) (xs : List ℕ) (x : ℕ) → every p xs ≡ true → among x xs ≡ true → p x ≡ true
+every_among p [] x e a = grind arith
+every_among p (y ∷ xs) x e a =
+    let ih = every_among p xs x in
+    ⊎_elim (λ t. let is : x ≡ y = grind (arith, nat_tests) in ap p is ∙ grind arith) (λ t. grind (arith, nat_tests)) (cases_Bool (eqb x y))
+
+pub among_append : (n : ℕ) (xs ys : List ℕ) → among n (xs ++ ys) ≡ (among n xs || among n ys)
+among_append n [] ys = refl
+among_append n (x ∷ xs) ys = let ih = among_append n xs ys in grind arith
+
+pub every_append : {X : Type 0} (p : X → Bool) (xs ys : List X) → every p (xs ++ ys) ≡ (every p xs && every p ys)
+every_append p [] ys = refl
+every_append p (x ∷ xs) ys = let ih = every_append p xs ys in grind arith
+
+pub every_kept : {X : Type 0} (p r : X → Bool) (xs : List X) → every p xs ≡ true → every p (filter r xs) ≡ true
+every_kept p r [] h = refl
+every_kept p r (x ∷ xs) h =
+    let parts = and_parts _ _ h in
+    let ih = every_kept p r xs parts.1 in
+    ⊎_elim (λ (e : r x ≡ true). rw e (and_from _ _ parts.0 ih)) (λ (e : r x ≡ false). rw e ih) (cases_Bool (r x))
+
+pub every_weaker : {X : Type 0} (p r : X → Bool) (xs : List X) → ((x : X) → p x ≡ true → r x ≡ true) → every p xs ≡ true → every r xs ≡ true
+every_weaker p r [] f h = refl
+every_weaker p r (x ∷ xs) f h = let parts = and_parts _ _ h in and_from _ _ (f x parts.0) (every_weaker p r xs f parts.1)
+
+every_added : (p : ℕ → Bool) (n : ℕ) (xs : List ℕ) → every p xs ≡ true → p n ≡ true → every p (added n xs) ≡ true
+every_added p n xs h is =
+    ⊎_elim (λ (e : among n xs ≡ true). rw e h)
+    (λ (e : among n xs ≡ false). rw e (every_append p xs (n ∷ []) ∙ and_from _ _ h (and_from _ _ is refl)))
+    (cases_Bool (among n xs))
+
+-- a moment was added to the pins, or nothing changed
+pub every_either : (p : ℕ → Bool) (m : ℕ) (r : Bool) (xs pins : List ℕ) → (r ≡ true → pins ≡ added m xs) → (r ≡ false → pins ≡ xs) → every p xs ≡ true → p m ≡ true → every p pins ≡ true
+every_either p m r xs pins yes_way no_way h is =
+    ⊎_elim (λ e. ap (every p) (yes_way e) ∙ every_added p m xs h is) (λ e. ap (every p) (no_way e) ∙ h) (cases_Bool r)
+
+pub every_without : (p : ℕ → Bool) (m : ℕ) (xs pins : List ℕ) → pins ≡ without m xs → every p xs ≡ true → every p pins ≡ true
+every_without p m xs pins e h = ap (every p) e ∙ every_kept p (λ x. not (eqb x m)) xs h

@@ -17,7 +17,7 @@ use Rattle.database.specs.Rows.{matches, read_matched}
 use Rattle.database.specs.Databases.{Db, Known}
 use Rattle.database.specs.Turns.{greatest, smallest, first_of, end_of, until_of, between}
 use Rattle.database.specs.Scans.{summary, first_with, end_with, smaller, turned_by, read_more, read_by}
-use Rattle.database.proofs.Sets.{among_kept, least_among, least_below}
+use Rattle.database.proofs.Sets.{every_among, among_kept, least_among, least_below}
 
 greatest_push : (ns : List ℕ) (t : ℕ) → greatest (ns ++ t ∷ []) ≡ max (greatest ns) t
 greatest_push [] t = omega arith
@@ -82,33 +82,6 @@ read_push m q rows ns row few is =
 pub pass_push : (m : ℕ) (q : Query) (rows : List Row) (ns : List ℕ) (row : Row) → matches q row ≡ false → summary m q rows ns ≡ summary m q (rows ++ row ∷ []) ns
 pass_push m q rows ns row is =
     same_scan _ _ _ _ _ _ (sym (ap (read_matched q) (kept_push (matches q) rows row ∙ cond-false (matches q row) _ _ is))) refl refl
-
--- lists
-
-pub every_among : (p : ℕ → Bool) (xs : List ℕ) (x : ℕ) → every p xs ≡ true → among x xs ≡ true → p x ≡ true
-every_among p [] x e a = grind arith
-every_among p (y ∷ xs) x e a =
-    let ih = every_among p xs x in
-    ⊎_elim (λ t. let is : x ≡ y = grind (arith, nat_tests) in ap p is ∙ grind arith) (λ t. grind (arith, nat_tests)) (cases_Bool (eqb x y))
-
-pub among_append : (n : ℕ) (xs ys : List ℕ) → among n (xs ++ ys) ≡ (among n xs || among n ys)
-among_append n [] ys = refl
-among_append n (x ∷ xs) ys = let ih = among_append n xs ys in grind arith
-
-pub every_append : {X : Type 0} (p : X → Bool) (xs ys : List X) → every p (xs ++ ys) ≡ (every p xs && every p ys)
-every_append p [] ys = refl
-every_append p (x ∷ xs) ys = let ih = every_append p xs ys in grind arith
-
-pub every_kept : {X : Type 0} (p r : X → Bool) (xs : List X) → every p xs ≡ true → every p (filter r xs) ≡ true
-every_kept p r [] h = refl
-every_kept p r (x ∷ xs) h =
-    let parts = and_parts _ _ h in
-    let ih = every_kept p r xs parts.1 in
-    ⊎_elim (λ (e : r x ≡ true). rw e (and_from _ _ parts.0 ih)) (λ (e : r x ≡ false). rw e ih) (cases_Bool (r x))
-
-pub every_weaker : {X : Type 0} (p r : X → Bool) (xs : List X) → ((x : X) → p x ≡ true → r x ≡ true) → every p xs ≡ true → every r xs ≡ true
-every_weaker p r [] f h = refl
-every_weaker p r (x ∷ xs) f h = let parts = and_parts _ _ h in and_from _ _ (f x parts.0) (every_weaker p r xs f parts.1)
 
 -- the greatest up to m is at most m, and at least each of them
 pub first_upto : (m : ℕ) (ns : List ℕ) → first_of m ns ≤ m

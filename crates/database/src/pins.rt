@@ -1,6 +1,6 @@
 // The pinned moments of a store.
-ghost use Rattle.std.specs.Prelude.{◌≡◌, ◌≤◌, true, false, not, ◌||◌, [], length, IfOk, vec_len, vec_capacity, ◌==◌, nat_lt};
-ghost use Rattle.database.specs.Lists.{among, distinct, added, without};
+ghost use Rattle.std.specs.Prelude.{◌≡◌, ℕ, ◌≤◌, Bool, true, false, not, ◌&&◌, ◌||◌, [], ◌∷◌, length, IfOk, vec_len, vec_capacity, ◌==◌, nat_le, nat_lt};
+ghost use Rattle.database.specs.Lists.{every, among, distinct, added, without};
 
 use crate::retain::{Test, any_passes, retain};
 use std::alloc::{AllocError, Global};
@@ -89,6 +89,28 @@ impl Pins {
         ensures { self.new.moments.items ≡ without moment self.old.moments.items }
     {
         retain(&mut self.moments, &Other { moment });
+    }
+
+    // Pins a moment, if it is pinned already or fewer than 32 are. Tells also which moments are there then,
+    // and that they stay at most this one, or at least a floor, if they were.
+    pub fn pin(&mut self, moment: Moment) -> bool
+        ensures can { result ≡ (among moment self.old.moments.items || nat_lt (length self.old.moments.items) 32) }
+        ensures items { result ≡ true → self.new.moments.items ≡ added moment self.old.moments.items }
+        ensures among { result ≡ true → (n : ℕ) → among n self.new.moments.items ≡ (n == moment || among n self.old.moments.items) }
+        ensures same { result ≡ false → self.new ≡ self.old }
+        ensures upto { every (λ pin. nat_le pin moment) self.old.moments.items ≡ true → every (λ pin. nat_le pin moment) self.new.moments.items ≡ true }
+        ensures from { (floor : ℕ) → every (λ pin. nat_le floor pin) (moment ∷ self.old.moments.items) ≡ true → every (λ pin. nat_le floor pin) (moment ∷ self.new.moments.items) ≡ true }
+    {
+        self.add(moment)
+    }
+
+    // A moment is pinned no longer. What holds of each pinned moment still does.
+    pub fn unpin(&mut self, moment: Moment)
+        ensures items { self.new.moments.items ≡ without moment self.old.moments.items }
+        ensures among { (n : ℕ) → among n self.new.moments.items ≡ (among n self.old.moments.items && not (n == moment)) }
+        ensures every { (p : ℕ → Bool) → every p self.old.moments.items ≡ true → every p self.new.moments.items ≡ true }
+    {
+        self.remove(moment);
     }
 
     pub fn clear(&mut self)

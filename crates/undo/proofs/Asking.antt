@@ -12,7 +12,8 @@ use Rattle.database.specs.Turns.{between}
 use Rattle.database.specs.Databases.{held, Answers}
 use Rattle.database.proofs.Rows.{reads_rows}
 use Rattle.database.proofs.Readings.{reads_alike}
-use Rattle.database.proofs.Turns.{Alike, among_append, every_append, every_among, between_inside, between_alike, between_known}
+use Rattle.database.proofs.Sets.{among_append, every_append, every_among}
+use Rattle.database.proofs.Turns.{Alike, between_inside, between_alike, between_known}
 use Rattle.undo.specs.Soundness.{held_floor, rows_hold, rows_unique}
 use Rattle.undo.specs.declared.entry.Entry.{Entry}
 use Rattle.undo.specs.declared.entry.Version.{Version}

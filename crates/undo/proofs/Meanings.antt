@@ -9,8 +9,7 @@ use Rattle.database.specs.Lists.{every, among, added, without}
 use Rattle.database.specs.Rows.{holding, unique}
 use Rattle.database.specs.Databases.{Written}
 use Rattle.database.specs.Writes.{refusal, wrong_list, no_room, or_else}
-use Rattle.database.proofs.Sets.{least_among, least_below}
-use Rattle.database.proofs.Turns.{every_among, every_append, every_kept}
+use Rattle.database.proofs.Sets.{every_among, every_append, every_kept, least_among, least_below}
 use Rattle.line.specs.Rings.{waiting}
 use Rattle.line.proofs.Rings.{length_waiting_fits, waiting_none}
 use Rattle.undo.specs.Soundness.{good}
@@ -26,22 +25,6 @@ use Rattle.undo.proofs.Undoing.{later_later, states_before, state_late, changed_
 use Rattle.undo.proofs.Telling.{dated_part, dated_changes, told_part, told_changes}
 use Rattle.undo.proofs.Showing.{unique_changes, shown_written}
 use Rattle.undo.proofs.Asking.{held_past}
-
--- pins
-
-every_added : (p : ℕ → Bool) (n : ℕ) (xs : List ℕ) → every p xs ≡ true → p n ≡ true → every p (added n xs) ≡ true
-every_added p n xs h is =
-    ⊎_elim (λ (e : among n xs ≡ true). rw e h)
-    (λ (e : among n xs ≡ false). rw e (every_append p xs (n ∷ []) ∙ and_from _ _ h (and_from _ _ is refl)))
-    (cases_Bool (among n xs))
-
--- a moment was added to the pins, or nothing changed
-pub every_either : (p : ℕ → Bool) (m : ℕ) (r : Bool) (xs pins : List ℕ) → (r ≡ true → pins ≡ added m xs) → (r ≡ false → pins ≡ xs) → every p xs ≡ true → p m ≡ true → every p pins ≡ true
-every_either p m r xs pins yes_way no_way h is =
-    ⊎_elim (λ e. ap (every p) (yes_way e) ∙ every_added p m xs h is) (λ e. ap (every p) (no_way e) ∙ h) (cases_Bool r)
-
-pub every_without : (p : ℕ → Bool) (m : ℕ) (xs pins : List ℕ) → pins ≡ without m xs → every p xs ≡ true → every p pins ≡ true
-every_without p m xs pins e h = ap (every p) e ∙ every_kept p (λ x. not (eqb x m)) xs h
 
 -- the lowest held moment
 
@@ -59,12 +42,6 @@ every_from p [] h = refl
 every_from p (x ∷ xs) h = and_from _ _ (h x (or_left _ _ (eq-eqb x x refl))) (every_from p xs (λ y a. h y (or_right _ _ a)))
 
 -- writes
-
-pub no_refusal : (l free : ℕ) (cs : List Change) → refusal l free cs ≡ None → (l < highest) × (length cs ≤ free)
-no_refusal l free cs none =
-    let f : (o : Option Fault) → or_else o (no_room l free cs) ≡ None → no_room l free cs ≡ None = λ o. elim o as (λ o. or_else o (no_room l free cs) ≡ None → no_room l free cs ≡ None) [ None ↦ λ e. e | Some x ↦ λ e. grind arith ] in
-    let room = f (wrong_list cs) none in
-    grind (arith, telling)
 
 pub writes : (s : Store) (cs : List Change) → Good s → Written (meaning s) cs (s.latest + 1) (meaning (written cs s))
 writes s cs good =

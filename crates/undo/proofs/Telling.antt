@@ -11,7 +11,7 @@ use Rattle.terms.specs.declared.record.Change.TheVariants.{Set, Delete}
 use Rattle.terms.specs.Records.{is_id, change_id}
 use Rattle.database.specs.Lists.{every}
 use Rattle.database.proofs.Rows.{same_id}
-use Rattle.database.proofs.Turns.{every_append, every_weaker}
+use Rattle.database.proofs.Sets.{every_append, every_weaker}
 use Rattle.undo.specs.declared.entry.Held.{Held}
 use Rattle.undo.specs.declared.entry.Present.{Present}
 use Rattle.undo.specs.declared.entry.Entry.{Entry}

@@ -15,7 +15,7 @@ use Rattle.database.specs.States.{Records}
 use Rattle.database.specs.Rows.{holding}
 use Rattle.database.specs.Writes.{put, changed}
 use Rattle.database.proofs.Rows.{same_id}
-use Rattle.database.proofs.Turns.{every_append}
+use Rattle.database.proofs.Sets.{every_append}
 use Rattle.undo.specs.declared.entry.Held.{Held}
 use Rattle.undo.specs.declared.entry.Present.{Present}
 use Rattle.undo.specs.declared.entry.Entry.{Entry}

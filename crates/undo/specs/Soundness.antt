@@ -1,6 +1,6 @@
 -- Every undo store is a database: the law that its impl has to prove.
 use Rattle.database.proofs.Rows.{few_keys, keys_in}
-use Rattle.database.proofs.Turns.{every_among}
+use Rattle.database.proofs.Sets.{every_among}
 use Rattle.database.specs.Databases.{Sound, held}
 use Rattle.database.specs.Rows.{holding, present, unique}
 use Rattle.database.specs.States.{KeysIn, Records, in_state, seen}

@@ -1,6 +1,7 @@
 // The undo store as a database.
 ghost use Rattle.std.specs.Prelude.{◌≡◌, ℕ, Bool, true, false, not, ◌&&◌, ◌||◌, ◌∷◌, length, is_ok, IfOk, MatchResult, ◌==◌, nat_le, nat_lt};
 ghost use Rattle.database.specs.Lists.{every, among, least, added, without};
+ghost use Rattle.database.specs.Writes.{refusal};
 ghost use Rattle.database.specs.Databases.{held, PinsLatest, Unpins, UnpinsAll, Asks, Writes};
 ghost use Rattle.undo.specs.Soundness;
 ghost use Rattle.undo.specs.Stores.{lowest, in_range, Refused, store_of, meaning, empty_at, pinned, unpinned, unpinned_all, written, validity};
@@ -32,27 +33,6 @@ fn in_range(size: usize, first: Moment) -> bool
     ensures { result ≡ in_range size first }
 {
     0 < size && size <= 4096 && is_moment(first)
-}
-
-// A moment is pinned, if it can be.
-fn pin_one(pins: &mut Pins, moment: Moment) -> bool
-    ensures can { result ≡ (among moment pins.old.moments.items || nat_lt (length pins.old.moments.items) 32) }
-    ensures items { result ≡ true → pins.new.moments.items ≡ added moment pins.old.moments.items }
-    ensures among { result ≡ true → (n : ℕ) → among n pins.new.moments.items ≡ (n == moment || among n pins.old.moments.items) }
-    ensures same { result ≡ false → pins.new ≡ pins.old }
-    ensures upto { every (λ pin. nat_le pin moment) pins.old.moments.items ≡ true → every (λ pin. nat_le pin moment) pins.new.moments.items ≡ true }
-    ensures from { (floor : ℕ) → every (λ pin. nat_le floor pin) (moment ∷ pins.old.moments.items) ≡ true → every (λ pin. nat_le floor pin) (moment ∷ pins.new.moments.items) ≡ true }
-{
-    pins.add(moment)
-}
-
-// A moment is pinned no longer.
-fn unpin_one(pins: &mut Pins, moment: Moment)
-    ensures items { pins.new.moments.items ≡ without moment pins.old.moments.items }
-    ensures among { (n : ℕ) → among n pins.new.moments.items ≡ (among n pins.old.moments.items && not (n == moment)) }
-    ensures every { (p : ℕ → Bool) → every p pins.old.moments.items ≡ true → every p pins.new.moments.items ≡ true }
-{
-    pins.remove(moment);
 }
 
 impl<'a> UndoStore<'a> {
@@ -96,6 +76,13 @@ impl<'a> UndoStore<'a> {
         moment == self.latest || self.pins.contains(moment)
     }
 
+    // Why a write of these changes is refused, if it is.
+    fn refuses(&self, changes: &[Change]) -> Option<Fault>
+        ensures { result ≡ refusal self.now.latest (meaning (store_of self.now)).free changes.now }
+    {
+        write_refusal(self.latest, self.free(), changes)
+    }
+
     // The lowest held moment.
     fn lowest(&self) -> Moment
         ensures { result ≡ lowest (store_of self.now) }
@@ -123,7 +110,7 @@ impl Database for UndoStore<'_> {
         ensures same { is_ok result ≡ false → store_of self.new ≡ store_of self.old }
     {
         let latest = self.latest;
-        if pin_one(&mut self.pins, latest) {
+        if self.pins.pin(latest) {
             Ok(latest)
         } else {
             Err(Fault::NoPin { frames: 0 })
@@ -134,7 +121,7 @@ impl Database for UndoStore<'_> {
         ensures means { Unpins (meaning (store_of self.old)) moment (meaning (store_of self.new)) }
         ensures keeps { store_of self.new ≡ unpinned moment (store_of self.old) }
     {
-        unpin_one(&mut self.pins, moment);
+        self.pins.unpin(moment);
     }
 
     fn unpin_all(&mut self)
@@ -160,7 +147,7 @@ impl Database for UndoStore<'_> {
         ensures keeps { is_ok result ≡ true → store_of self.new ≡ written changes.now (store_of self.old) }
         ensures same { is_ok result ≡ false → store_of self.new ≡ store_of self.old }
     {
-        if let Some(fault) = write_refusal(self.latest, self.free(), changes) {
+        if let Some(fault) = self.refuses(changes) {
             return Err(fault);
         }
         let moment = self.latest + 1;

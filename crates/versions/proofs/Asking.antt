@@ -11,24 +11,10 @@ use Rattle.database.specs.States.{Reads}
 use Rattle.database.specs.Rows.{matches, read_matched}
 use Rattle.database.specs.Databases.{held, Known, Answers}
 use Rattle.database.proofs.Rows.{reads_rows}
-use Rattle.database.proofs.Sets.{among_kept, least_among, least_below}
+use Rattle.database.proofs.Sets.{every_among, among_append, every_append, among_kept, least_among, least_below}
 use Rattle.versions.specs.declared.version.Version.{Version}
 use Rattle.versions.specs.Versions.{lasts, visible, rows_at, state_at, turns, turns_of, replacements, greatest, smallest, first_of, end_of, until_of, dated, replaced_by}
 use Rattle.versions.specs.Stores.{Store, meaning, answer_at, Good}
-
-pub every_among : (p : ℕ → Bool) (xs : List ℕ) (x : ℕ) → every p xs ≡ true → among x xs ≡ true → p x ≡ true
-every_among p [] x e a = grind arith
-every_among p (y ∷ xs) x e a =
-    let ih = every_among p xs x in
-    ⊎_elim (λ t. let is : x ≡ y = grind (arith, nat_tests) in ap p is ∙ grind arith) (λ t. grind (arith, nat_tests)) (cases_Bool (x == y))
-
-pub among_append : (n : ℕ) (xs ys : List ℕ) → among n (xs ++ ys) ≡ (among n xs || among n ys)
-among_append n [] ys = refl
-among_append n (x ∷ xs) ys = let ih = among_append n xs ys in grind arith
-
-pub every_append : {X : Type 0} (p : X → Bool) (xs ys : List X) → every p (xs ++ ys) ≡ (every p xs && every p ys)
-every_append p [] ys = refl
-every_append p (x ∷ xs) ys = let ih = every_append p xs ys in grind arith
 
 -- the greatest up to m is at most m, and at least each of them
 first_upto : (m : ℕ) (ns : List ℕ) → first_of m ns ≤ m

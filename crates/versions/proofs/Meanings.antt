@@ -11,12 +11,12 @@ use Rattle.database.specs.Lists.{every, among, added, without}
 use Rattle.database.specs.Rows.{holding, unique}
 use Rattle.database.specs.Databases.{Pinned, can_pin, Unpins, UnpinsAll, Written}
 use Rattle.database.specs.Writes.{changed, refusal, wrong_list, no_room, or_else}
-use Rattle.database.proofs.Sets.{among_added, among_without}
+use Rattle.database.proofs.Sets.{among_added, among_without, every_kept}
 use Rattle.versions.specs.Versions.{rows_at, needed, changed_by_all, dated}
 use Rattle.versions.specs.declared.version.Version.{Version}
 use Rattle.versions.specs.Soundness.{good}
 use Rattle.versions.specs.Stores.{Store, meaning, needed_of, pinned, unpinned, unpinned_all, written, Good}
-use Rattle.versions.proofs.Asking.{every_append, held_past}
+use Rattle.versions.proofs.Asking.{held_past}
 use Rattle.versions.proofs.Writing.{rows_needed, rows_before, rows_late, rows_changes, dated_part, dated_changes, apart_changes, unique_part}
 
 pub pins_latest : (s : Store) → can_pin (meaning s) ≡ true → Pinned (meaning s) s.latest (meaning (pinned s))
@@ -28,33 +28,12 @@ unpins s m = record { latest = refl; pins = λ n. among_without n m s.pins; stat
 pub unpins_all : (s : Store) → UnpinsAll (meaning s) (meaning (unpinned_all s))
 unpins_all s = record { latest = refl; pins = refl; states = λ n t k h. refl }
 
--- what is pinned is not later than the latest
-pub past_added : (l : ℕ) (pins : List ℕ) → every (λ pin. nat_le pin l) pins ≡ true → every (λ pin. nat_le pin l) (added l pins) ≡ true
-past_added l pins h =
-    ⊎_elim (λ (e : among l pins ≡ true). rw e h)
-    (λ (e : among l pins ≡ false). rw e (every_append (λ pin. nat_le pin l) pins (l ∷ []) ∙ and_from _ _ h (and_from _ _ (le-leb l l (omega arith)) refl)))
-    (cases_Bool (among l pins))
-
-pub every_kept : {X : Type 0} (p r : X → Bool) (xs : List X) → every p xs ≡ true → every p (filter r xs) ≡ true
-every_kept p r [] h = refl
-every_kept p r (x ∷ xs) h =
-    let parts = and_parts _ _ h in
-    let ih = every_kept p r xs parts.1 in
-    ⊎_elim (λ (e : r x ≡ true). rw e (and_from _ _ parts.0 ih)) (λ (e : r x ≡ false). rw e ih) (cases_Bool (r x))
-
 pub past_later : (l : ℕ) (pins : List ℕ) → every (λ pin. nat_le pin l) pins ≡ true → every (λ pin. nat_le pin (l + 1)) pins ≡ true
 past_later l [] h = refl
 past_later l (p ∷ pins) h =
     let parts = and_parts _ _ h in
     let e = leb-true p l parts.0 in
     and_from _ _ (le-leb p (l + 1) (omega arith)) (past_later l pins parts.1)
-
--- a write that is not refused has a next moment and room
-pub no_refusal : (l free : ℕ) (cs : List Change) → refusal l free cs ≡ None → (l < highest) × (length cs ≤ free)
-no_refusal l free cs none =
-    let f : (o : Option Fault) → or_else o (no_room l free cs) ≡ None → no_room l free cs ≡ None = λ o. elim o as (λ o. or_else o (no_room l free cs) ≡ None → no_room l free cs ≡ None) [ None ↦ λ e. e | Some x ↦ λ e. grind arith ] in
-    let room = f (wrong_list cs) none in
-    grind (arith, nat_tests)
 
 pub writes : (s : Store) (cs : List Change) → Good s → Written (meaning s) cs (s.latest + 1) (meaning (written cs s))
 writes s cs good =
@@ -73,28 +52,6 @@ writes s cs good =
           (rows_late l (l + 1) part (omega arith) (every_kept (dated l) (needed l s.pins) s.kept good.dates)
           ∙ rows_needed l l s.pins s.kept (or_left _ _ (eq-eqb l l refl)));
     }
-
--- the same store with other pins
-abbrev with_pins : Store → List ℕ → Store
-with_pins s pins = record { places = s.places; latest = s.latest; pins = pins; kept = s.kept }
-
-pub pins_to : (s : Store) (pins : List ℕ) → pins ≡ added s.latest s.pins → with_pins s pins ≡ pinned s
-pins_to s pins e = ap (with_pins s) e
-
-pub pins_mean : (s : Store) (pins : List ℕ) → pins ≡ added s.latest s.pins → can_pin (meaning s) ≡ true → Pinned (meaning s) s.latest (meaning (with_pins s pins))
-pins_mean s pins e can = let P : List ℕ → Type 0 = λ ps. Pinned (meaning s) s.latest (meaning (with_pins s ps)) in subst P (sym e) (pins_latest s can)
-
-pub pins_past : (s : Store) (pins : List ℕ) → pins ≡ added s.latest s.pins → Good s → every (λ pin. nat_le pin s.latest) pins ≡ true
-pins_past s pins e good = ap (every (λ pin. nat_le pin s.latest)) e ∙ past_added s.latest s.pins good.past
-
-pub unpins_to : (s : Store) (m : ℕ) (pins : List ℕ) → pins ≡ without m s.pins → with_pins s pins ≡ unpinned m s
-unpins_to s m pins e = ap (with_pins s) e
-
-pub unpins_mean : (s : Store) (m : ℕ) (pins : List ℕ) → pins ≡ without m s.pins → Unpins (meaning s) m (meaning (with_pins s pins))
-unpins_mean s m pins e = let P : List ℕ → Type 0 = λ ps. Unpins (meaning s) m (meaning (with_pins s ps)) in subst P (sym e) (unpins s m)
-
-pub unpins_past : (s : Store) (m : ℕ) (pins : List ℕ) → pins ≡ without m s.pins → Good s → every (λ pin. nat_le pin s.latest) pins ≡ true
-unpins_past s m pins e good = ap (every (λ pin. nat_le pin s.latest)) e ∙ every_kept (λ pin. nat_le pin s.latest) (λ x. not (x == m)) s.pins good.past
 
 -- the store with the needed versions and the changes
 abbrev with_kept : Store → ℕ → List Version → Store
@@ -122,7 +79,3 @@ pub needed_few : (s : Store) → Good s → length (needed_of s) ≤ s.places
 needed_few s good =
     let p = needed s.latest s.pins in
     omega (arith, length-filter p s.kept, count_by-le-length p s.kept, good.fits)
-
-pub pins_either : (s : Store) (r : Bool) (pins : List ℕ) → (r ≡ true → pins ≡ added s.latest s.pins) → (r ≡ false → pins ≡ s.pins) → Good s → every (λ pin. nat_le pin s.latest) pins ≡ true
-pins_either s r pins one other good =
-    ⊎_elim (λ e. pins_past s pins (one e) good) (λ e. ap (every (λ pin. nat_le pin s.latest)) (other e) ∙ good.past) (cases_Bool r)

@@ -17,7 +17,7 @@ use Rattle.database.specs.Rows.{holding, present, unique}
 use Rattle.database.specs.Writes.{put, changed}
 use Rattle.versions.specs.declared.version.Version.{Version}
 use Rattle.versions.specs.Versions.{lasts, visible, rows_at, needed, current, retired, fresh, changed_by, changed_by_all, replaced_by, dated}
-use Rattle.versions.proofs.Asking.{every_append}
+use Rattle.database.proofs.Sets.{every_append}
 
 -- a version visible at a held moment is needed, so the records of a held moment stay
 any_among : (p : ℕ → Bool) (ns : List ℕ) (n : ℕ) → among n ns ≡ true → p n ≡ true → any p ns ≡ true

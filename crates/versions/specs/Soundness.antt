@@ -6,7 +6,7 @@ use Rattle.std.proofs.lemmas.List.{length-map}
 use Rattle.std.proofs.lemmas.List.Sums.{length-filter, count_by-le-length}
 use Rattle.database.specs.Databases.{Sound}
 use Rattle.database.proofs.Rows.{few_keys, keys_in}
-use Rattle.database.proofs.Turns.{every_among}
+use Rattle.database.proofs.Sets.{every_among}
 use Rattle.versions.specs.Versions.{visible, rows_at}
 use Rattle.versions.specs.declared.store.VersionStore.{VersionStore}
 use Rattle.versions.specs.Stores.{Store, store_of, meaning, Good}

@@ -1,5 +1,6 @@
 // The version store as a database.
 ghost use Rattle.std.specs.Prelude.{◌≡◌, true, false, is_ok, IfOk, MatchResult};
+ghost use Rattle.database.specs.Writes.{refusal};
 ghost use Rattle.database.specs.Databases.{held, PinsLatest, Unpins, UnpinsAll, Asks, Writes};
 ghost use Rattle.versions.specs.Versions.{needed, visible};
 ghost use Rattle.versions.specs.Scans.{scan_answer};
@@ -77,6 +78,13 @@ impl VersionStore {
     {
         moment == self.latest || self.pins.contains(moment)
     }
+
+    // Why a write of these changes is refused, if it is.
+    fn refuses(&self, changes: &[Change]) -> Option<Fault>
+        ensures { result ≡ refusal self.now.latest (meaning (store_of self.now)).free changes.now }
+    {
+        write_refusal(self.latest, self.free(), changes)
+    }
 }
 
 impl Database for VersionStore {
@@ -102,7 +110,7 @@ impl Database for VersionStore {
         ensures same { is_ok result ≡ false → store_of self.new ≡ store_of self.old }
     {
         let latest = self.latest;
-        if self.pins.add(latest) {
+        if self.pins.pin(latest) {
             Ok(latest)
         } else {
             Err(Fault::NoPin { frames: 0 })
@@ -113,7 +121,7 @@ impl Database for VersionStore {
         ensures means { Unpins (meaning (store_of self.old)) moment (meaning (store_of self.new)) }
         ensures keeps { store_of self.new ≡ unpinned moment (store_of self.old) }
     {
-        self.pins.remove(moment);
+        self.pins.unpin(moment);
     }
 
     fn unpin_all(&mut self)
@@ -138,7 +146,7 @@ impl Database for VersionStore {
         ensures keeps { is_ok result ≡ true → store_of self.new ≡ written changes.now (store_of self.old) }
         ensures same { is_ok result ≡ false → store_of self.new ≡ store_of self.old }
     {
-        if let Some(fault) = write_refusal(self.latest, self.free(), changes) {
+        if let Some(fault) = self.refuses(changes) {
             return Err(fault);
         }
         let moment = self.latest + 1;

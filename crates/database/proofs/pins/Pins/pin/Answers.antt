@@ -1,13 +1,12 @@
 use Rattle.std.proofs.Common.{◌≡◌, false, leb, vec_items, ap, ◌∙◌, arith}
 use Rattle.std.proofs.lemmas.Bool.{le-leb, and_from, and_parts}
 use Rattle.database.specs.Lists.{among, every}
-use Rattle.database.proofs.Sets.{among_added}
-use Rattle.undo.proofs.Meanings.{every_either}
-use Rattle.undo.proofs.calls.pin_one.Goals as goal
+use Rattle.database.proofs.Sets.{among_added, every_either}
+use Rattle.database.proofs.pins.Pins.pin.Goals as goal
 
 pub returns : goal.returns
 returns c =
-    let before = vec_items c.args.pins.now.moments in
+    let before = vec_items c.args.self.now.moments in
     let after = vec_items c.add.new.self.moments in
     let m = c.args.moment in
     let r = c.add.result in

@@ -1,12 +1,11 @@
 use Rattle.std.proofs.Common.{vec_items, ap, ◌∙◌}
 use Rattle.database.specs.Lists.{among}
-use Rattle.database.proofs.Sets.{among_without}
-use Rattle.undo.proofs.Meanings.{every_without}
-use Rattle.undo.proofs.calls.unpin_one.Goals as goal
+use Rattle.database.proofs.Sets.{among_without, every_without}
+use Rattle.database.proofs.pins.Pins.unpin.Goals as goal
 
 pub returns : goal.returns
 returns c =
-    let before = vec_items c.args.pins.now.moments in
+    let before = vec_items c.args.self.now.moments in
     let m = c.args.moment in
     record {
       items = c.remove.ensures;
