@@ -1,15 +1,12 @@
 -- What each call makes of the store is what a database means by it.
-use Rattle.std.proofs.Common.{◌≡◌, ℕ, ◌+◌, ◌-◌, ◌<◌, ◌≤◌, Bool, true, false, not, ◌&&◌, eqb, ltb, leb, List, [], ◌∷◌, length, drop, Some, None, vec_items, Option, sym, refl, ap, ◌∙◌, subst, ⊎_elim, arith}
-use Rattle.std.proofs.lemmas.Bool.Decides.{nat_tests as telling}
+use Rattle.std.proofs.Common.{◌≡◌, ℕ, ◌+◌, ◌-◌, ◌≤◌, Bool, true, false, ◌&&◌, ltb, leb, List, [], ◌∷◌, length, drop, vec_items, sym, refl, ap, ◌∙◌, subst, ⊎_elim, arith}
 use Rattle.std.proofs.lemmas.Bool.{cases_Bool, leb-true, le-leb, and_from, and_parts, or_right, or_left, eq-eqb}
 use Rattle.terms.specs.declared.record.Change.{Change}
-use Rattle.terms.specs.declared.fault.Fault.{Fault}
 use Rattle.terms.specs.Moments.{highest, is_moment}
-use Rattle.database.specs.Lists.{every, among, added, without}
+use Rattle.database.specs.Lists.{every, among}
 use Rattle.database.specs.Rows.{holding, unique}
 use Rattle.database.specs.Databases.{Written}
-use Rattle.database.specs.Writes.{refusal, wrong_list, no_room, or_else}
-use Rattle.database.proofs.Sets.{every_among, every_append, every_kept, least_among, least_below}
+use Rattle.database.proofs.Sets.{every_among, least_among, least_below}
 use Rattle.line.specs.Rings.{waiting}
 use Rattle.line.proofs.Rings.{length_waiting_fits, waiting_none}
 use Rattle.undo.specs.Soundness.{good}

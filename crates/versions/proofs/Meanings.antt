@@ -1,16 +1,13 @@
 -- What each call makes of the store is what a database means by it.
-use Rattle.std.specs.Prelude.{◌≡◌, ℕ, ◌+◌, ◌<◌, ◌≤◌, Bool, true, false, not, List, [], ◌∷◌, length, Some, None, filter, Option, ◌==◌, nat_le, refl}
-use Rattle.std.proofs.Common.{sym, ap, ◌∙◌, subst, ⊎_elim, arith}
-use Rattle.std.proofs.lemmas.Bool.Decides.{nat_tests}
-use Rattle.std.proofs.lemmas.Bool.{cases_Bool, leb-true, le-leb, and_from, and_parts, or_right, or_left, eq-eqb}
+use Rattle.std.specs.Prelude.{◌≡◌, ℕ, ◌+◌, ◌≤◌, true, List, [], ◌∷◌, length, filter, nat_le, refl}
+use Rattle.std.proofs.Common.{sym, ap, ◌∙◌, subst, arith}
+use Rattle.std.proofs.lemmas.Bool.{leb-true, le-leb, and_from, and_parts, or_right, or_left, eq-eqb}
 use Rattle.std.proofs.lemmas.List.Sums.{length-filter, count_by-le-length}
 use Rattle.terms.specs.declared.record.Change.{Change}
-use Rattle.terms.specs.declared.fault.Fault.{Fault}
-use Rattle.terms.specs.Moments.{highest}
-use Rattle.database.specs.Lists.{every, among, added, without}
+use Rattle.database.specs.Lists.{every}
 use Rattle.database.specs.Rows.{holding, unique}
 use Rattle.database.specs.Databases.{Pinned, can_pin, Unpins, UnpinsAll, Written}
-use Rattle.database.specs.Writes.{changed, refusal, wrong_list, no_room, or_else}
+use Rattle.database.specs.Writes.{changed}
 use Rattle.database.proofs.Sets.{among_added, among_without, every_kept}
 use Rattle.versions.specs.Versions.{rows_at, needed, changed_by_all, dated}
 use Rattle.versions.specs.declared.version.Version.{Version}

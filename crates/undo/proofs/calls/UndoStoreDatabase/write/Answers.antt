@@ -1,4 +1,4 @@
-use Rattle.std.proofs.Common.{◌+◌, ◌≤◌, length, vec_items, vec_len, vec_capacity, sym, ap, ◌∙◌, arith, rules}
+use Rattle.std.proofs.Common.{◌+◌, ◌≤◌, length, vec_items, vec_len, vec_capacity, sym, ap, arith, rules}
 use Rattle.database.proofs.Changes.{no_refusal}
 use Rattle.line.proofs.Rings.{length_waiting_fits}
 use Rattle.undo.specs.Soundness.{good}
