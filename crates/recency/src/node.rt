@@ -1,5 +1,5 @@
 // The recency node over a lent table.
-ghost use Rattle.std.specs.Prelude.{◌≡◌, ℕ, ◌+◌, ◌-◌, ◌<◌, ◌≤◌, min, ◌&&◌, List, [], ◌∷◌, ◌++◌, map, length, take, drop, is_ok, filter, MatchResult, nat_le, nat_lt, slice_index_or, slice_set};
+ghost use Rattle.std.specs.Prelude.{◌≡◌, ◌+◌, ◌-◌, ◌<◌, ◌≤◌, min, ◌&&◌, [], ◌∷◌, ◌++◌, map, length, take, drop, is_ok, filter, MatchResult, nat_le, nat_lt, slice_index_or, slice_set};
 ghost use Rattle.terms.specs.declared.fault.Fault.TheVariants.{OutOfRange};
 ghost use Rattle.cache.specs.Entries.{blank_entry, accepted, closed};
 ghost use Rattle.cache.specs.Lists.{Same};

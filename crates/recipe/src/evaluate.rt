@@ -1,5 +1,5 @@
 // The value of a sheet, worked out over a database without a cache.
-ghost use Rattle.std.specs.Prelude.{◌≡◌, true, false};
+ghost use Rattle.std.specs.Prelude.{◌≡◌};
 ghost use Rattle.recipe.specs.Recipes.{start, table_of};
 ghost use Rattle.terms.specs.Records.{known_table};
 ghost use Rattle.recipe.specs.Evaluations.{ReadsAt, last_answer, WorksOut, Evaluates};
@@ -49,7 +49,8 @@ fn last_answer(ask: Ask) -> Result<Reading, Fault>
 }
 
 // Works a sheet out at a held moment, with at most `depth` sheets above one another.
-// Refuses with 32 at the first query where the moment is not held, 21, 23 or 24 where the sheet has no value, and 22 where the depth is used up.
+// Refuses with 32 at a query where the moment is not held, 21, 23 or 24 where the sheet has no value, and 22 where the depth is used up.
+// A 32nd answer that is not done is refused with 23, whatever it asks.
 pub fn evaluate<D: Database, R: Recipe>(
     db: &D,
     recipe: &R,

@@ -1,5 +1,4 @@
 // The value of a sheet.
-ghost use Rattle.std.specs.Prelude.{◌≡◌, ℕ, true};
 ghost use Rattle.recipe.specs.Recipes.{Rules as Meaning, ValueIsOne, ValueRests};
 
 // Where a sheet has a value it is one, and it rests on the records that its run's tags touch.

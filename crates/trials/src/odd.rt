@@ -1,5 +1,4 @@
 // Recipes that no one would want.
-ghost use Rattle.std.specs.Prelude.{◌≡◌};
 ghost use Rattle.trials.specs.Odd.{stubborn, patient};
 ghost use Rattle.std.proofs.Common.{rules};
 

@@ -1,6 +1,6 @@
 // The undo store as a database.
-ghost use Rattle.std.specs.Prelude.{◌≡◌, ℕ, Bool, true, false, not, ◌&&◌, ◌||◌, ◌∷◌, length, is_ok, IfOk, MatchResult, ◌==◌, nat_le, nat_lt};
-ghost use Rattle.database.specs.Lists.{every, among, least, added, without};
+ghost use Rattle.std.specs.Prelude.{◌≡◌, true, false, length, is_ok, IfOk, MatchResult};
+ghost use Rattle.database.specs.Lists.{least};
 ghost use Rattle.database.specs.Writes.{refusal};
 ghost use Rattle.database.specs.Databases.{held, PinsLatest, Unpins, UnpinsAll, Asks, Writes};
 ghost use Rattle.undo.specs.Soundness;

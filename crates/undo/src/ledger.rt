@@ -1,5 +1,5 @@
 // The present records and the journal of a store.
-ghost use Rattle.std.specs.Prelude.{◌≡◌, ◌+◌, ◌-◌, ◌<◌, ◌≤◌, min, true, [], ◌∷◌, ◌++◌, length, drop, vec_len, vec_capacity, filter, nat_lt};
+ghost use Rattle.std.specs.Prelude.{◌≡◌, ◌+◌, ◌-◌, ◌<◌, ◌≤◌, min, [], ◌∷◌, ◌++◌, length, drop, vec_len, vec_capacity, filter, nat_lt};
 ghost use Rattle.std.specs.List.{slice_get};
 ghost use Rattle.line.specs.Rings.{waiting};
 ghost use Rattle.undo.specs.Ledgers.{Roomy, Grown};

@@ -1,5 +1,4 @@
 // Versions of records.
-ghost use Rattle.std.specs.Prelude.{◌≡◌, ◌&&◌};
 
 use terms::{Moment, Row};
 

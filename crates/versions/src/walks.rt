@@ -1,6 +1,5 @@
 // Steps over lists of versions.
 ghost use Rattle.std.specs.Prelude.{◌≡◌, ◌+◌, ◌≤◌, map, length, vec_len, vec_capacity};
-ghost use Rattle.database.specs.Rows.{matches};
 ghost use Rattle.versions.specs.Versions.{visible, retired, changed_by, changed_by_all};
 
 use crate::version::Version;
