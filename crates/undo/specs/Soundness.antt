@@ -29,7 +29,7 @@ abbrev pub only : Option Value → List Value
 only None = []
 only (Some value) = value ∷ []
 
-pub same_value : (v w : Value) → (eqb v.state w.state && eqb v.word w.word) ≡ true → v ≡ w
+same_value : (v w : Value) → (eqb v.state w.state && eqb v.word w.word) ≡ true → v ≡ w
 same_value v w e =
     let s : v.state ≡ w.state = grind (arith, telling) in
     let t : v.word ≡ w.word = grind (arith, telling) in
@@ -59,7 +59,7 @@ few_rows m vs =
     omega arith
 
 -- one more entry
-pub former_few : (id : RecordId) (commit : ℕ) (held : Option Held) → length (former id commit held) ≤ 1
+former_few : (id : RecordId) (commit : ℕ) (held : Option Held) → length (former id commit held) ≤ 1
 former_few id commit None = omega arith
 former_few id commit (Some held) = omega arith
 
@@ -73,18 +73,18 @@ joined_few (e ∷ es) =
 
 -- rows of which each record has at most one hold its value
 
-pub first : List Value → Option Value
+first : List Value → Option Value
 first [] = None
 first (v ∷ vs) = Some v
 
-pub holding_first : (rows : List Row) (t k : ℕ) → holding rows t k ≡ first (values_in rows t k)
+holding_first : (rows : List Row) (t k : ℕ) → holding rows t k ≡ first (values_in rows t k)
 unfolding first
 holding_first [] t k = refl
 holding_first (row ∷ rows) t k =
     let ih = holding_first rows t k in
     ⊎_elim (λ e. rw e refl) (λ e. rw e ih) (cases_Bool (is_id row.id (record { table = t; key = k })))
 
-pub first_only : (o : Option Value) → first (only o) ≡ o
+first_only : (o : Option Value) → first (only o) ≡ o
 unfolding first
 first_only None = refl
 first_only (Some v) = refl
@@ -92,7 +92,7 @@ first_only (Some v) = refl
 pub holding_only : (rows : List Row) (t k : ℕ) (o : Option Value) → values_in rows t k ≡ only o → holding rows t k ≡ o
 holding_only rows t k o e = holding_first rows t k ∙ ap first e ∙ first_only o
 
-pub present_values : (id : RecordId) (rows : List Row) → present id rows ≡ true → 1 ≤ length (values_in rows id.table id.key)
+present_values : (id : RecordId) (rows : List Row) → present id rows ≡ true → 1 ≤ length (values_in rows id.table id.key)
 present_values id [] e = grind arith
 present_values id (row ∷ rows) e =
     let ih = present_values id rows in
@@ -102,7 +102,7 @@ present_values id (row ∷ rows) e =
     (λ (b : is_id row.id id ≡ false). rw b (ih (grind arith)))
     (cases_Bool (is_id row.id id))
 
-pub values_cons : (row : Row) (rows : List Row) (t k : ℕ) → length (values_in rows t k) ≤ length (values_in (row ∷ rows) t k)
+values_cons : (row : Row) (rows : List Row) (t k : ℕ) → length (values_in rows t k) ≤ length (values_in (row ∷ rows) t k)
 values_cons row rows t k =
     ⊎_elim (λ e. rw e (omega arith)) (λ e. rw e (omega arith)) (cases_Bool (is_id row.id (record { table = t; key = k })))
 
@@ -151,14 +151,14 @@ good s =
       apart = s.apart;
     }
 
-pub few_versions : (s : Store) → Good s → length (versions s.present s.entries) ≤ 8192
+few_versions : (s : Store) → Good s → length (versions s.present s.entries) ≤ 8192
 few_versions s good =
     let a = length-append (map current s.present) (flat_map replaced_by s.entries) in
     let b = length-map s.present current in
     let c = joined_few s.entries in
     omega (arith, good.size, good.rows, good.places)
 
-pub seen_same : (one other : Records) (t k : ℕ) → one t k ≡ other t k → seen one t k ≡ seen other t k
+seen_same : (one other : Records) (t k : ℕ) → one t k ≡ other t k → seen one t k ≡ seen other t k
 seen_same one other t k e = ap (λ (v : Option Value). cond (known_table t) v None) e
 
 -- every store is a database
