@@ -37,7 +37,7 @@ pub fn matches_row(query: Query, row: Row) -> bool
     ensures { result ≡ matches query row }
 {
     match query {
-        Query::Get { id } => id.is_known() && id.is(row.id),
+        Query::Get { id } => id.is_known() && id == row.id,
         Query::Tally { table, state } => table < 8
             && table == row.id.table
             && state == row.value.state,

@@ -16,7 +16,7 @@ impl Test<Change> for Names {
     ghost passed = { λ s change. is_id s.id (change_id change) };
 
     fn passes(&self, change: Change) -> bool {
-        self.id.is(change.id())
+        self.id == change.id()
     }
 }
 

@@ -4,7 +4,7 @@ ghost use Rattle.terms.specs.Faults.{number_of, place_of};
 
 // Each case has a number, whose tens digit is the layer: 1 the books, 2 the recipe, 3 the pins, 4 writes, 5 the stream, 6 a making.
 // `frames` is the number of frames before the call, `index` that of a change in its list.
-#[derive(Clone, Copy)]
+#[derive(Clone, Copy, PartialEq, Eq)]
 pub enum Fault {
     // 11: no open transaction has the number
     NotOpen,

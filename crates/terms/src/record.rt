@@ -1,25 +1,25 @@
 // Records, changes to them and queries over them.
 ghost use Rattle.std.specs.Prelude.{◌≡◌};
-ghost use Rattle.terms.specs.Records.{is_id, one_tag, shown, change_id, change_value, change_tag, query_tag, known_table};
+ghost use Rattle.terms.specs.Records.{one_tag, shown, change_id, change_value, change_tag, query_tag, known_table};
 
 use crate::tag::Tag;
 
 // The name of a record: its table, 0 to 7, and its key. A table from outside may be any byte.
-#[derive(Clone, Copy)]
+#[derive(Clone, Copy, PartialEq, Eq)]
 pub struct RecordId {
     pub table: u8,
     pub key: u32,
 }
 
 // What a record holds where it is not absent.
-#[derive(Clone, Copy)]
+#[derive(Clone, Copy, PartialEq, Eq)]
 pub struct Value {
     pub state: u8,
     pub word: u32,
 }
 
 // A record that is present, with what it holds.
-#[derive(Clone, Copy)]
+#[derive(Clone, Copy, PartialEq, Eq)]
 pub struct Row {
     pub id: RecordId,
     pub value: Value,
@@ -28,31 +28,32 @@ pub struct Row {
 // Absent, or a pair of numbers.
 pub type Reading = Option<(u32, u32)>;
 
-#[derive(Clone, Copy)]
+#[derive(Clone, Copy, PartialEq, Eq)]
 pub enum Change {
     Set { id: RecordId, value: Value },
     Delete { id: RecordId },
 }
 
 // A get reads one record. A tally counts the records of a table in a state, and tells their smallest key.
-#[derive(Clone, Copy)]
+#[derive(Clone, Copy, PartialEq, Eq)]
 pub enum Query {
     Get { id: RecordId },
     Tally { table: u8, state: u8 },
 }
 
-impl RecordId {
-    pub fn is(self, other: RecordId) -> bool
-        ensures { result ≡ is_id self other }
-    {
-        self.table == other.table && self.key == other.key
-    }
+// Whether a table is one of the eight.
+pub fn is_table(table: u8) -> bool
+    ensures { result ≡ known_table table }
+{
+    table < 8
+}
 
+impl RecordId {
     // Whether the table is one of the eight.
     pub fn is_known(self) -> bool
         ensures { result ≡ known_table self.table }
     {
-        self.table < 8
+        is_table(self.table)
     }
 
     pub fn tag(self) -> Tag
@@ -65,14 +66,20 @@ impl RecordId {
     }
 }
 
+// A value as a pair of numbers, its state first.
+impl From<Value> for (u32, u32) {
+    ghost from_gives = { λ value pair. pair ≡ record { 0 = value.state; 1 = value.word } };
+
+    fn from(value: Value) -> (u32, u32) {
+        (u32::from(value.state), value.word)
+    }
+}
+
 // What a get reads of a record.
 pub fn reading_of(found: Option<Value>) -> Reading
     ensures { result ≡ shown found }
 {
-    match found {
-        Some(value) => Some((u32::from(value.state), value.word)),
-        None => None,
-    }
+    found.map(<(u32, u32)>::from)
 }
 
 impl Change {

@@ -3,7 +3,7 @@ ghost use Rattle.std.specs.Prelude.{◌≡◌};
 ghost use Rattle.terms.specs.Tags.{touches};
 
 // What a reading rests on: one key of a table or, without a key, all of the table (a star).
-#[derive(Clone, Copy)]
+#[derive(Clone, Copy, PartialEq, Eq)]
 pub struct Tag {
     pub table: u8,
     pub key: Option<u32>,
