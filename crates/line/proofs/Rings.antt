@@ -148,6 +148,24 @@ module _ {X : Type 0} where
       (λ k d lt. let within : k < l.len = omega (arith, length_waiting_fits l' room' fits') in
       get_d_waiting l' room' k d fits' (omega arith) ∙ same k d within ∙ sym (get_d_waiting l room k d fits within))
 
+  -- what waits from the head on, and then what waits from the slice's start on
+  pub waiting_parts : (l : Line) (room : List X) (k : ℕ) → l.size ≤ length room → k ≡ min l.len (l.size - l.head) → take (l.head + k - l.head) (drop l.head room) ++ take (l.len - k) room ≡ waiting l room
+  waiting_parts l room k fits least =
+      let few = l.few in
+      let inside = l.inside in
+      let h = l.head in
+      let near = take (h + k - h) (drop h room) in
+      let far = take (l.len - k) room in
+      let n : length near ≡ k = omega (arith, length-take (h + k - h) (drop h room), length-drop h room) in
+      same_lists (near ++ far) (waiting l room)
+      (length-append near far ∙ omega (arith, length-take (l.len - k) room, length_waiting_fits l room fits))
+      (λ i d lt.
+      let some : i < l.len = omega (arith, length-append near far, length-take (l.len - k) room) in
+      ⊎_elim (λ (low : i < k). get_or_append_left near far d i (omega arith) ∙ get_or-take (h + k - h) (drop h room) i d (omega arith) ∙ get_or-drop h room i d ∙ ap (λ p. get_or room p d) (sym (place_low l i (omega arith))))
+      (λ (high : k ≤ i). get_or-append_right near far k i d n high ∙ get_or-take (l.len - k) room (i - k) d (omega arith) ∙ ap (λ p. get_or room p d) (omega (arith, place_high l i (omega arith))))
+      (cases_lt i k)
+      ∙ sym (get_d_waiting l room i d fits some))
+
   -- a write where none waits
   pub waiting_set : (l : Line) (room : List X) (at : ℕ) (x : X) → ((i : ℕ) → i < l.len → place_of l i ≢ at) → waiting l (set room at x) ≡ waiting l room
   waiting_set l room at x apart =
@@ -264,3 +282,7 @@ module _ {X : Type 0} where
   -- where the i-th is there, more than i wait
   pub some_waits : (l : Line) (room : List X) (i : ℕ) (x : X) → Some x ≡ slice_get (waiting l room) i → i + 1 ≤ l.len
   some_waits l room i x is = omega (arith, got_within (waiting l room) i x is, length_waiting_le l room)
+
+  -- the oldest has left
+  pub waiting_popped : (l l' : Line) (room : List X) (x : X) → Some x ≡ slice_get (waiting l room) 0 → Advanced l 1 l' → waiting l' room ≡ drop 1 (waiting l room)
+  waiting_popped l l' room x is a = waiting_advanced l l' room 1 a (some_waits l room 0 x is)

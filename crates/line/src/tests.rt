@@ -23,18 +23,16 @@ impl Journal<'_> {
         ensures answer { result ≡ admission self.old.line self.old.entries.now }
         ensures kept { is_ok result ≡ true → waiting self.new.line self.new.entries.now ≡ waiting self.old.line self.old.entries.now ++ entry ∷ [] }
     {
-        let mut line = self.line;
-        let taken = line.push(self.entries, entry);
-        self.line = line;
-        taken
+        self.line.push(self.entries, entry)
     }
 
     fn forget(&mut self) -> Option<Entry>
         ensures first { result ≡ slice_get (waiting self.old.line self.old.entries.now) 0 }
         ensures rest { waiting self.new.line self.new.entries.now ≡ drop 1 (waiting self.old.line self.old.entries.now) }
     {
+        let entries = &mut *self.entries;
         let mut line = self.line;
-        let oldest = line.pop_lent(self.entries);
+        let oldest = line.pop(entries);
         self.line = line;
         oldest
     }
@@ -112,8 +110,8 @@ fn entries_wait_past_the_wrap(rt: HostRuntime) -> Result<(), Fail> {
         assert_eq!(rt; journal.forget().ok_or("the oldest")?.commit, commit - 3);
         assert!(rt; journal.keep(entry_of(commit)).is_ok());
     }
-    for i in 0..3 {
-        assert_eq!(rt; journal.entry(i).ok_or("an entry")?.commit, 6 + i as u64);
+    for (i, commit) in (6..9).enumerate() {
+        assert_eq!(rt; journal.entry(i).ok_or("an entry")?.commit, commit);
     }
     assert!(rt; journal.entry(3).is_none());
     assert_eq!(rt; places[3].commit, 0, "past the line's last place");

@@ -1,5 +1,5 @@
 // The calls of a waiting line. None asks anything of its caller: in a slice that is too short nothing waits, and nothing is taken.
-ghost use Rattle.std.specs.Prelude.{◌≡◌, ◌-◌, ◌<◌, ◌≤◌, min, true, false, length, drop, is_some, is_ok, ◌==◌};
+ghost use Rattle.std.specs.Prelude.{◌≡◌, ◌-◌, ◌++◌, ◌<◌, ◌≤◌, min, true, false, length, drop, is_some, is_ok, ◌==◌};
 ghost use Rattle.std.specs.List.{slice_get};
 ghost use Rattle.line.specs.Rings.{place_of, counted, place_in, waiting, Made, admission, Entered, Advanced};
 
@@ -77,6 +77,7 @@ impl Line {
     }
 
     // How many wait in a slice: all that the line counts or, in a slice that is too short, none.
+    #[tactic(auto, using(crate::proofs::Rings::length_waiting))]
     pub fn count<T>(&self, room: &[T]) -> usize
         ensures { result ≡ length (waiting self.now room.now) }
     {
@@ -84,6 +85,7 @@ impl Line {
     }
 
     // The i-th that waits, of which the oldest is the 0-th.
+    #[tactic(auto, using(crate::proofs::Rings::nth_found, crate::proofs::Rings::nth_missing))]
     pub fn get<T: Copy>(&self, room: &[T], i: usize) -> Option<T>
         ensures { result ≡ slice_get (waiting self.now room.now) i }
     {
@@ -98,12 +100,19 @@ impl Line {
         self.get(room, 0)
     }
 
-    // As get, over a slice that is lent for writing, and is left as it was.
-    pub fn get_lent<T: Copy>(&self, room: &mut [T], i: usize) -> Option<T>
-        ensures got { result ≡ slice_get (waiting self.now room.old) i }
-        ensures room { room.new ≡ room.old }
+    // What waits in a slice, oldest first, in two parts: from the head on, and from the slice's start on.
+    #[tactic(auto, using(crate::proofs::Rings::waiting_short, crate::proofs::Rings::waiting_parts))]
+    pub fn as_slices<'a, T>(&self, room: &'a [T]) -> (&'a [T], &'a [T])
+        ensures { result.0.now ++ result.1.now ≡ waiting self.now room.now }
     {
-        self.get(room, i)
+        if self.size > room.len() {
+            return (&room[..0], &room[..0]);
+        }
+        let behind = self.len.min(self.size - self.head);
+        (
+            &room[self.head..self.head + behind],
+            &room[..self.len - behind],
+        )
     }
 
     // Adds an element behind the last. A slice that is too short and a line that is full are refused, and nothing changes.
@@ -125,6 +134,7 @@ impl Line {
     }
 
     // Writes an element behind the last.
+    #[tactic(auto, using(crate::proofs::Rings::entered))]
     fn join<T: Copy>(&mut self, room: &mut [T], x: T)
         requires { (self.old.len < self.old.size) × (self.old.size ≤ length room.old) }
         ensures { Entered self.old room.old x self.new room.new }
@@ -151,6 +161,7 @@ impl Line {
     }
 
     // Takes the oldest; where none waits in the slice, the line is unchanged.
+    #[tactic(auto, using(crate::proofs::Rings::waiting_popped, crate::proofs::Rings::some_waits))]
     pub fn pop<T: Copy>(&mut self, room: &[T]) -> Option<T>
         ensures first { result ≡ slice_get (waiting self.old room.now) 0 }
         ensures rest { waiting self.new room.now ≡ drop 1 (waiting self.old room.now) }
@@ -161,18 +172,6 @@ impl Line {
         let first = self.front(room)?;
         self.advance(1);
         Some(first)
-    }
-
-    // As pop, over a slice that is lent for writing, and is left as it was.
-    pub fn pop_lent<T: Copy>(&mut self, room: &mut [T]) -> Option<T>
-        ensures room { room.new ≡ room.old }
-        ensures first { result ≡ slice_get (waiting self.old room.old) 0 }
-        ensures rest { waiting self.new room.new ≡ drop 1 (waiting self.old room.old) }
-        ensures line { is_some result ≡ false → self.new ≡ self.old }
-        ensures moved { is_some result ≡ true → Advanced self.old 1 self.new }
-        ensures size { self.new.size ≡ self.old.size }
-    {
-        self.pop(room)
     }
 
     // Lets all go.
