@@ -4,5 +4,4 @@ pub mod Sets
 pub mod Readings
 pub mod Changes
 pub mod Rows
-pub mod Turns
 pub mod Agreements

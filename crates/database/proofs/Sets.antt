@@ -1,5 +1,5 @@
 -- Laws of lists of numbers as sets.
-use Rattle.std.proofs.Common.{◌≡◌, ℕ, ◌+◌, ◌≤◌, min, Bool, true, false, not, ◌&&◌, ◌||◌, eqb, ◌⊎◌, List, [], ◌∷◌, ◌++◌, length, filter, sym, refl, ap, ◌∙◌, inl, inr, ⊎_elim, add-one, arith}
+use Rattle.std.proofs.Common.{◌≡◌, ℕ, ◌+◌, ◌≤◌, min, Bool, true, false, not, ◌&&◌, ◌||◌, eqb, ◌⊎◌, List, [], ◌∷◌, ◌++◌, length, filter, fold, leb, sym, refl, ap, ◌∙◌, inl, inr, ⊎_elim, add-one, arith}
 use Rattle.std.proofs.lemmas.Bool.Decides.{nat_tests}
 use Rattle.std.proofs.lemmas.Bool.{eqb-true, cases_Bool, cases_lt, or_right, and_from, and_parts}
 use Rattle.std.proofs.lemmas.List.Sums.{length-filter, count_by-le-length}
@@ -56,6 +56,11 @@ pub least_below : (n : ℕ) (xs : List ℕ) (k : ℕ) → among k (n ∷ xs) ≡
 least_below n [] k a = grind (arith, nat_tests)
 least_below n (x ∷ xs) k a = let ih = least_below x xs k in grind (arith, nat_tests)
 
+pub least_folded : (n : ℕ) (xs : List ℕ) → fold min n xs ≡ least n xs
+least_folded n [] = refl
+least_folded n (x ∷ []) = refl
+least_folded n (x ∷ (y ∷ xs)) = least_folded (min n x) (y ∷ xs) ∙ grind arith
+
 -- two lists of the same numbers, each once, tell the same tally
 pub same_tally : (xs ys : List ℕ) → distinct xs ≡ true → distinct ys ≡ true → ((k : ℕ) → among k xs ≡ among k ys) → tallied xs ≡ tallied ys
 same_tally [] [] dx dy same = refl
@@ -84,8 +89,11 @@ pub distinct_push : (m : ℕ) (xs : List ℕ) → distinct xs ≡ true → among
 distinct_push m [] d a = refl
 distinct_push m (x ∷ xs) d a = let ih = distinct_push m xs in let e = among_push x m xs in grind (arith, nat_tests)
 
+pub length_kept : {X : Type 0} (p : X → Bool) (xs : List X) → length (filter p xs) ≤ length xs
+length_kept p xs = omega (arith, length-filter p xs, count_by-le-length p xs)
+
 pub length_without_le : (m : ℕ) (xs : List ℕ) → length (without m xs) ≤ length xs
-length_without_le m xs = omega (arith, length-filter (λ x. not (eqb x m)) xs, count_by-le-length (λ x. not (eqb x m)) xs)
+length_without_le m xs = length_kept (λ x. not (eqb x m)) xs
 
 -- tests of every element
 pub every_among : (p : ℕ → Bool) (xs : List ℕ) (x : ℕ) → every p xs ≡ true → among x xs ≡ true → p x ≡ true
@@ -113,7 +121,7 @@ pub every_weaker : {X : Type 0} (p r : X → Bool) (xs : List X) → ((x : X) �
 every_weaker p r [] f h = refl
 every_weaker p r (x ∷ xs) f h = let parts = and_parts _ _ h in and_from _ _ (f x parts.0) (every_weaker p r xs f parts.1)
 
-every_added : (p : ℕ → Bool) (n : ℕ) (xs : List ℕ) → every p xs ≡ true → p n ≡ true → every p (added n xs) ≡ true
+pub every_added : (p : ℕ → Bool) (n : ℕ) (xs : List ℕ) → every p xs ≡ true → p n ≡ true → every p (added n xs) ≡ true
 every_added p n xs h is =
     ⊎_elim (λ (e : among n xs ≡ true). rw e h)
     (λ (e : among n xs ≡ false). rw e (every_append p xs (n ∷ []) ∙ and_from _ _ h (and_from _ _ is refl)))
@@ -126,3 +134,7 @@ every_either p m r xs pins yes_way no_way h is =
 
 pub every_without : (p : ℕ → Bool) (m : ℕ) (xs pins : List ℕ) → pins ≡ without m xs → every p xs ≡ true → every p pins ≡ true
 every_without p m xs pins e h = ap (every p) e ∙ every_kept p (λ x. not (eqb x m)) xs h
+
+-- what is at most a moment is at most the one after it
+pub past_next : (m : ℕ) (pins : List ℕ) → every (λ pin. leb pin m) pins ≡ true → every (λ pin. leb pin (m + 1)) pins ≡ true
+past_next m pins h = every_weaker (λ pin. leb pin m) (λ pin. leb pin (m + 1)) pins (λ x is. grind (arith, nat_tests)) h

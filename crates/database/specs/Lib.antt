@@ -3,6 +3,4 @@ pub mod States
 pub mod Rows
 pub mod Databases
 pub mod Writes
-pub mod Turns
-pub mod Scans
 pub mod Agreements

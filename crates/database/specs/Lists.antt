@@ -1,15 +1,14 @@
 -- Lists, and lists of numbers as sets.
 use Rattle.std.specs.Prelude.{ℕ, min, Bool, true, false, cond, not, ◌&&◌, ◌||◌, List, [], ◌∷◌, ◌++◌, filter, ◌==◌, nat_eq}
+use Rattle.std.specs.List.{list_any, list_all}
 
 -- whether an element passes the test
 abbrev pub any : {X : Type 0} → (X → Bool) → List X → Bool
-any test [] = false
-any test (x ∷ xs) = test x || any test xs
+any test xs = list_any test xs
 
 -- whether every element passes the test
 abbrev pub every : {X : Type 0} → (X → Bool) → List X → Bool
-every test [] = true
-every test (x ∷ xs) = test x && every test xs
+every test xs = list_all test xs
 
 -- whether a number stands in a list
 abbrev pub among : ℕ → List ℕ → Bool

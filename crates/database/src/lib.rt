@@ -1,16 +1,17 @@
 // What a database means, for every kind of database.
 #![tactic(auto)]
 
-ghost use Rattle.std.specs.Prelude.{◌≡◌};
+ghost use Rattle.std.specs.Prelude.{◌≡◌, MatchResult};
+ghost use Rattle.database.specs.Writes.{refusal};
 ghost use Rattle.database.specs.Databases.{Db, Sound, PinsLatest, Unpins, UnpinsAll, Asks, Writes};
 
 pub mod agree;
 pub mod pins;
 pub mod queries;
-pub mod retain;
-pub mod scan;
+pub mod snapshots;
 pub mod writes;
 
+use crate::writes::check_write;
 use terms::{Change, Fault, Interval, Moment, Query, Reading, Tag};
 
 // What a query reads at a moment, the tag it rests on, and for how long it is right.
@@ -48,6 +49,13 @@ pub trait Database {
     // Reads a query at a held moment.
     fn ask(&self, moment: Moment, query: Query) -> Result<Answer, Fault>
         ensures { Asks (view self.now) moment query result };
+
+    // Refuses changes that a write would refuse.
+    fn check(&self, changes: &[Change]) -> Result<(), Fault>
+        ensures { MatchResult result (λ _. refusal (view self.now).latest (view self.now).free changes.now ≡ None) (λ fault. refusal (view self.now).latest (view self.now).free changes.now ≡ Some fault) }
+    {
+        check_write(self.latest(), self.free(), changes)
+    }
 
     // Makes the changes at the moment after the latest, and answers it.
     fn write(&mut self, changes: &[Change]) -> Result<Moment, Fault>

@@ -1,10 +1,10 @@
 // The pinned moments of a store.
-ghost use Rattle.std.specs.Prelude.{◌≡◌, ℕ, ◌≤◌, Bool, true, false, not, ◌&&◌, ◌||◌, [], ◌∷◌, length, IfOk, vec_len, vec_capacity, ◌==◌, nat_le, nat_lt};
+ghost use Rattle.std.specs.Prelude.{◌≡◌, ℕ, ◌≤◌, Bool, true, false, not, ◌&&◌, ◌||◌, [], ◌∷◌, length, is_ok, IfOk, IfErr, vec_len, vec_capacity, ◌==◌, nat_le, nat_lt};
+ghost use Rattle.terms.specs.declared.fault.Fault.TheVariants.{NoPin};
 ghost use Rattle.database.specs.Lists.{every, among, distinct, added, without};
 
-use crate::retain::{Test, any_passes, retain};
 use std::alloc::{AllocError, Global};
-use terms::Moment;
+use terms::{Fault, Moment};
 
 // At most 32 moments, each once. Their room is reserved at the making.
 #[derive(Drop)]
@@ -15,32 +15,12 @@ pub struct Pins {
     ghost once: { distinct moments.items ≡ true },
 }
 
-// One moment.
-#[derive(Drop)]
-struct Same {
-    moment: Moment,
-}
-
-impl Test<Moment> for Same {
-    ghost passed = { λ s x. (s.moment == x) };
-
-    fn passes(&self, x: Moment) -> bool {
-        self.moment == x
-    }
-}
-
-// Every moment but one.
-#[derive(Drop)]
-struct Other {
-    moment: Moment,
-}
-
-impl Test<Moment> for Other {
-    ghost passed = { λ s x. not (x == s.moment) };
-
-    fn passes(&self, x: Moment) -> bool {
-        x != self.moment
-    }
+// Lets a moment go.
+fn remove(moments: &mut Vec<Moment>, moment: Moment)
+    ensures items { moments.new.items ≡ without moment moments.old.items }
+    ensures capacity { vec_capacity moments.new ≡ vec_capacity moments.old }
+{
+    moments.retain(|pin| *pin != moment);
 }
 
 impl Pins {
@@ -60,7 +40,7 @@ impl Pins {
     pub fn contains(&self, moment: Moment) -> bool
         ensures { result ≡ among moment self.now.moments.items }
     {
-        any_passes(&self.moments, &Same { moment })
+        self.moments.contains(&moment)
     }
 
     // Whether the moment is there, or fewer than 32 others are.
@@ -70,47 +50,35 @@ impl Pins {
         self.contains(moment) || self.moments.len() < 32
     }
 
-    // Adds a moment, if it is not there yet; false, and nothing changed, where 32 others are.
-    pub fn add(&mut self, moment: Moment) -> bool
-        ensures can { result ≡ (among moment self.old.moments.items || nat_lt (length self.old.moments.items) 32) }
-        ensures added { result ≡ true → self.new.moments.items ≡ added moment self.old.moments.items }
-        ensures same { result ≡ false → self.new ≡ self.old }
+    // Pins a moment, if it is pinned already or fewer than 32 are. Tells also which moments are there then,
+    // and that they stay at most this one, or at least a floor, if they were.
+    #[tactic(auto, using(crate::proofs::Sets::among_added, crate::proofs::Sets::every_added, crate::proofs::Sets::distinct_push))]
+    pub fn pin(&mut self, moment: Moment) -> Result<(), Fault>
+        ensures can { is_ok result ≡ (among moment self.old.moments.items || nat_lt (length self.old.moments.items) 32) }
+        ensures fault { IfErr result (λ fault. fault ≡ NoPin 0) }
+        ensures items { is_ok result ≡ true → self.new.moments.items ≡ added moment self.old.moments.items }
+        ensures among { is_ok result ≡ true → (n : ℕ) → among n self.new.moments.items ≡ (n == moment || among n self.old.moments.items) }
+        ensures same { is_ok result ≡ false → self.new ≡ self.old }
+        ensures upto { every (λ pin. nat_le pin moment) self.old.moments.items ≡ true → every (λ pin. nat_le pin moment) self.new.moments.items ≡ true }
+        ensures from { (floor : ℕ) → every (λ pin. nat_le floor pin) (moment ∷ self.old.moments.items) ≡ true → every (λ pin. nat_le floor pin) (moment ∷ self.new.moments.items) ≡ true }
     {
         if !self.can_add(moment) {
-            return false;
+            return Err(Fault::NoPin { frames: 0 });
         }
         if !self.contains(moment) {
             self.moments.push_reserved(moment);
         }
-        true
-    }
-
-    pub fn remove(&mut self, moment: Moment)
-        ensures { self.new.moments.items ≡ without moment self.old.moments.items }
-    {
-        retain(&mut self.moments, &Other { moment });
-    }
-
-    // Pins a moment, if it is pinned already or fewer than 32 are. Tells also which moments are there then,
-    // and that they stay at most this one, or at least a floor, if they were.
-    pub fn pin(&mut self, moment: Moment) -> bool
-        ensures can { result ≡ (among moment self.old.moments.items || nat_lt (length self.old.moments.items) 32) }
-        ensures items { result ≡ true → self.new.moments.items ≡ added moment self.old.moments.items }
-        ensures among { result ≡ true → (n : ℕ) → among n self.new.moments.items ≡ (n == moment || among n self.old.moments.items) }
-        ensures same { result ≡ false → self.new ≡ self.old }
-        ensures upto { every (λ pin. nat_le pin moment) self.old.moments.items ≡ true → every (λ pin. nat_le pin moment) self.new.moments.items ≡ true }
-        ensures from { (floor : ℕ) → every (λ pin. nat_le floor pin) (moment ∷ self.old.moments.items) ≡ true → every (λ pin. nat_le floor pin) (moment ∷ self.new.moments.items) ≡ true }
-    {
-        self.add(moment)
+        Ok(())
     }
 
     // A moment is pinned no longer. What holds of each pinned moment still does.
+    #[tactic(auto, using(crate::proofs::Sets::among_without, crate::proofs::Sets::every_without, crate::proofs::Sets::distinct_without, crate::proofs::Sets::length_without_le))]
     pub fn unpin(&mut self, moment: Moment)
         ensures items { self.new.moments.items ≡ without moment self.old.moments.items }
         ensures among { (n : ℕ) → among n self.new.moments.items ≡ (among n self.old.moments.items && not (n == moment)) }
         ensures every { (p : ℕ → Bool) → every p self.old.moments.items ≡ true → every p self.new.moments.items ≡ true }
     {
-        self.remove(moment);
+        remove(&mut self.moments, moment);
     }
 
     pub fn clear(&mut self)

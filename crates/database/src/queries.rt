@@ -4,6 +4,7 @@ ghost use Rattle.terms.specs.Records.{query_tag};
 ghost use Rattle.database.specs.Rows.{matches};
 ghost use Rattle.database.specs.States.{Records, Reads, ReadsAlike};
 
+use terms::record::is_table;
 use terms::{Query, Reading, Row, Tag};
 
 // The tag of the records that a query reads: it reads the same in every two states that answer alike on them.
@@ -15,21 +16,12 @@ pub fn rests_on(query: Query) -> Tag
 }
 
 // Whether two readings are the same; they are wherever both are the query's in one state.
+#[tactic(auto, using(crate::proofs::Readings::reads_one))]
 pub fn same_reading(query: Query, one: Reading, other: Reading) -> bool
     ensures same { Decides result (one ≡ other) }
     ensures one { (records : Records) → Reads records query one → Reads records query other → result ≡ true }
 {
-    equal(one, other)
-}
-
-fn equal(one: Reading, other: Reading) -> bool
-    ensures { Decides result (one ≡ other) }
-{
-    match (one, other) {
-        (Some((a, b)), Some((c, d))) => a == c && b == d,
-        (None, None) => true,
-        _ => false,
-    }
+    one == other
 }
 
 // Whether a present record is one that the query reads.
@@ -38,7 +30,7 @@ pub fn matches_row(query: Query, row: Row) -> bool
 {
     match query {
         Query::Get { id } => id.is_known() && id == row.id,
-        Query::Tally { table, state } => table < 8
+        Query::Tally { table, state } => is_table(table)
             && table == row.id.table
             && state == row.value.state,
     }

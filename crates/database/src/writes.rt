@@ -1,66 +1,54 @@
 // Whether a write is refused, for every kind of database.
-ghost use Rattle.std.specs.Prelude.{◌≡◌, []};
-ghost use Rattle.terms.specs.Records.{is_id, change_id};
-ghost use Rattle.database.specs.Writes.{wrong_change, wrong_list, refusal};
+ghost use Rattle.std.specs.Prelude.{◌≡◌, [], MatchResult};
+ghost use Rattle.database.specs.Writes.{names, wrong_change, wrong_list, refusal};
 
-use crate::retain::{Test, any_passes};
 use terms::{Change, Fault, HIGHEST, Moment, RecordId};
 
-// Passes the changes of a record.
-#[derive(Drop)]
-struct Names {
-    id: RecordId,
-}
-
-impl Test<Change> for Names {
-    ghost passed = { λ s change. is_id s.id (change_id change) };
-
-    fn passes(&self, change: Change) -> bool {
-        self.id == change.id()
-    }
-}
-
-// The first change whose table is not there, or whose record is named before it.
-fn wrong_change(changes: &[Change]) -> Option<Fault>
-    ensures { result ≡ wrong_change [] changes.now }
+// Whether a change of the list names the record.
+fn is_named(id: RecordId, changes: &[Change]) -> bool
+    ensures { result ≡ names id changes.now }
 {
-    for index in 0..changes.len() {
-        let id = changes[index].id();
-        if !id.is_known() {
-            return Some(Fault::ChangeTable { index });
-        }
-        if any_passes(&changes[0..index], &Names { id }) {
-            return Some(Fault::RecordRepeated { index });
-        }
-    }
-    None
+    changes.iter().any(|change| id == change.id())
 }
 
-// What is wrong with a list of changes, whatever the database holds.
-pub fn wrong_list(changes: &[Change]) -> Option<Fault>
-    ensures { result ≡ wrong_list changes.now }
+// Refuses the first change whose table is not there, or whose record is named before it.
+fn check_each(changes: &[Change]) -> Result<(), Fault>
+    ensures { MatchResult result (λ _. wrong_change [] changes.now ≡ None) (λ fault. wrong_change [] changes.now ≡ Some fault) }
+{
+    for (index, change) in changes.iter().enumerate() {
+        if !change.id().is_known() {
+            return Err(Fault::ChangeTable { index });
+        }
+        if is_named(change.id(), &changes[..index]) {
+            return Err(Fault::RecordRepeated { index });
+        }
+    }
+    Ok(())
+}
+
+// Refuses a list of changes in which something is wrong, whatever the database holds.
+pub fn check_list(changes: &[Change]) -> Result<(), Fault>
+    ensures { MatchResult result (λ _. wrong_list changes.now ≡ None) (λ fault. wrong_list changes.now ≡ Some fault) }
 {
     if changes.is_empty() {
-        return Some(Fault::NoChange);
+        return Err(Fault::NoChange);
     }
     if changes.len() > 16 {
-        return Some(Fault::TooManyChanges);
+        return Err(Fault::TooManyChanges);
     }
-    wrong_change(changes)
+    check_each(changes)
 }
 
-// Why a write is refused, if it is, by a database with this latest moment and free number.
-pub fn write_refusal(latest: Moment, free: u64, changes: &[Change]) -> Option<Fault>
-    ensures { result ≡ refusal latest free changes.now }
+// Refuses a write of these changes to a database with this latest moment and free number, if there is a reason to.
+pub fn check_write(latest: Moment, free: u64, changes: &[Change]) -> Result<(), Fault>
+    ensures { MatchResult result (λ _. refusal latest free changes.now ≡ None) (λ fault. refusal latest free changes.now ≡ Some fault) }
 {
-    if let Some(fault) = wrong_list(changes) {
-        return Some(fault);
-    }
+    check_list(changes)?;
     if latest >= HIGHEST {
-        return Some(Fault::MomentsUsedUp);
+        return Err(Fault::MomentsUsedUp);
     }
     if free < changes.len() as u64 {
-        return Some(Fault::StoreFull);
+        return Err(Fault::StoreFull);
     }
-    None
+    Ok(())
 }

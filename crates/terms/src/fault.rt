@@ -1,6 +1,9 @@
 // What is wrong in the input of a call.
 ghost use Rattle.std.specs.Prelude.{◌≡◌};
 ghost use Rattle.terms.specs.Faults.{number_of, place_of};
+ghost use Rattle.terms.specs.declared.fault.Fault.TheVariants.{OutOfMemory};
+
+use std::alloc::AllocError;
 
 // Each case has a number, whose tens digit is the layer: 1 the books, 2 the recipe, 3 the pins, 4 writes, 5 the stream, 6 a making.
 // `frames` is the number of frames before the call, `index` that of a change in its list.
@@ -98,5 +101,14 @@ impl Fault {
             Fault::RecordRepeated { index } | Fault::ChangeTable { index } => index,
             _ => 0,
         }
+    }
+}
+
+// Only a making asks for memory.
+impl From<AllocError> for Fault {
+    ghost from_gives = { λ _ fault. fault ≡ OutOfMemory };
+
+    fn from(_: AllocError) -> Fault {
+        Fault::OutOfMemory
     }
 }

@@ -1,5 +1,4 @@
 pub mod Maps
-pub mod Passes
 pub mod Asking
 pub mod Writing
 pub mod Meanings

@@ -1,5 +1,5 @@
 -- What each call makes of the store is what a database means by it.
-use Rattle.std.specs.Prelude.{◌≡◌, ℕ, ◌+◌, ◌≤◌, true, List, [], ◌∷◌, length, filter, nat_le, refl}
+use Rattle.std.specs.Prelude.{◌≡◌, ℕ, ◌+◌, ◌≤◌, min, true, None, List, [], ◌∷◌, length, filter, nat_le, refl}
 use Rattle.std.proofs.Common.{sym, ap, ◌∙◌, subst, arith}
 use Rattle.std.proofs.lemmas.Bool.{leb-true, le-leb, and_from, and_parts, or_right, or_left, eq-eqb}
 use Rattle.std.proofs.lemmas.List.Sums.{length-filter, count_by-le-length}
@@ -7,10 +7,13 @@ use Rattle.terms.specs.declared.record.Change.{Change}
 use Rattle.database.specs.Lists.{every}
 use Rattle.database.specs.Rows.{holding, unique}
 use Rattle.database.specs.Databases.{Pinned, can_pin, Unpins, UnpinsAll, Written}
-use Rattle.database.specs.Writes.{changed}
+use Rattle.terms.specs.Moments.{highest}
+use Rattle.database.specs.Writes.{changed, refusal}
+use Rattle.database.proofs.Changes.{no_refusal}
 use Rattle.database.proofs.Sets.{among_added, among_without, every_kept}
-use Rattle.versions.specs.Versions.{rows_at, needed, changed_by_all, dated}
-use Rattle.versions.specs.declared.version.Version.{Version}
+use Rattle.validity.specs.Versions.{rows_at, dated}
+use Rattle.validity.specs.declared.version.Version.{Version}
+use Rattle.versions.specs.Versions.{needed, changed_by_all}
 use Rattle.versions.specs.Soundness.{good}
 use Rattle.versions.specs.Stores.{Store, meaning, needed_of, pinned, unpinned, unpinned_all, written, Good}
 use Rattle.versions.proofs.Asking.{held_past}
@@ -24,13 +27,6 @@ unpins s m = record { latest = refl; pins = λ n. among_without n m s.pins; stat
 
 pub unpins_all : (s : Store) → UnpinsAll (meaning s) (meaning (unpinned_all s))
 unpins_all s = record { latest = refl; pins = refl; states = λ n t k h. refl }
-
-pub past_later : (l : ℕ) (pins : List ℕ) → every (λ pin. nat_le pin l) pins ≡ true → every (λ pin. nat_le pin (l + 1)) pins ≡ true
-past_later l [] h = refl
-past_later l (p ∷ pins) h =
-    let parts = and_parts _ _ h in
-    let e = leb-true p l parts.0 in
-    and_from _ _ (le-leb p (l + 1) (omega arith)) (past_later l pins parts.1)
 
 pub writes : (s : Store) (cs : List Change) → Good s → Written (meaning s) cs (s.latest + 1) (meaning (written cs s))
 writes s cs good =
@@ -50,26 +46,32 @@ writes s cs good =
           ∙ rows_needed l l s.pins s.kept (or_left _ _ (eq-eqb l l refl)));
     }
 
--- the store with the needed versions and the changes
-abbrev with_kept : Store → ℕ → List Version → Store
-with_kept s latest kept = record { places = s.places; latest = latest; pins = s.pins; kept = kept }
+-- a store that has, at the moment m after the latest, the needed versions with the changes
+pub wrote : (s z : Store) (cs : List Change) (part : List Version) (m : ℕ) → refusal s.latest (meaning s).free cs ≡ None → z.places ≡ s.places → z.latest ≡ min (s.latest + 1) highest → m ≡ z.latest → z.pins ≡ s.pins → part ≡ needed_of s → z.kept ≡ changed_by_all m cs part → z ≡ written cs s
+wrote s z cs part m none places least answer pins p kept =
+    let room = no_refusal s.latest (meaning s).free cs none in
+    let latest : z.latest ≡ s.latest + 1 = omega (arith, room.0) in
+    let made : ℕ → ℕ → List ℕ → List Version → Store = λ places latest pins kept. record { places = places; latest = latest; pins = pins; kept = kept } in
+    ap (λ k. made k z.latest z.pins z.kept) places
+    ∙ ap (λ k. made s.places k z.pins z.kept) latest
+    ∙ ap (λ k. made s.places (s.latest + 1) k z.kept) pins
+    ∙ ap (made s.places (s.latest + 1) s.pins) (kept ∙ ap (λ m. changed_by_all m cs part) (answer ∙ latest) ∙ ap (changed_by_all (s.latest + 1) cs) p)
 
-pub writes_to : (s : Store) (cs : List Change) (part kept : List Version) → part ≡ needed_of s → kept ≡ changed_by_all (s.latest + 1) cs part → with_kept s (s.latest + 1) kept ≡ written cs s
-writes_to s cs part kept p k = ap (with_kept s (s.latest + 1)) (k ∙ ap (changed_by_all (s.latest + 1) cs) p)
+pub wrote_means : (s z : Store) (cs : List Change) (m : ℕ) → m ≡ z.latest → z ≡ written cs s → Good s → Written (meaning s) cs m (meaning z)
+wrote_means s z cs m answer is good =
+    let P : Store → Type 0 = λ k. Written (meaning s) cs k.latest (meaning k) in
+    let Q : ℕ → Type 0 = λ n. Written (meaning s) cs n (meaning z) in
+    subst Q (sym answer) (subst P (sym is) (writes s cs good))
 
-pub writes_mean : (s : Store) (cs : List Change) (part kept : List Version) → part ≡ needed_of s → kept ≡ changed_by_all (s.latest + 1) cs part → Good s → Written (meaning s) cs (s.latest + 1) (meaning (with_kept s (s.latest + 1) kept))
-writes_mean s cs part kept p k good =
-    let P : Store → Type 0 = λ z. Written (meaning s) cs (s.latest + 1) (meaning z) in subst P (sym (writes_to s cs part kept p k)) (writes s cs good)
+pub wrote_dated : (s z : Store) (cs : List Change) → z ≡ written cs s → Good s → every (dated z.latest) z.kept ≡ true
+wrote_dated s z cs is good =
+    let P : Store → Type 0 = λ k. every (dated k.latest) k.kept ≡ true in
+    subst P (sym is) (dated_changes (s.latest + 1) cs (needed_of s) (dated_part (needed s.latest s.pins) s.latest s.kept good.dates))
 
-pub writes_dated : (s : Store) (cs : List Change) (part kept : List Version) → part ≡ needed_of s → kept ≡ changed_by_all (s.latest + 1) cs part → Good s → every (dated (s.latest + 1)) kept ≡ true
-writes_dated s cs part kept p k good =
-    ap (every (dated (s.latest + 1))) (k ∙ ap (changed_by_all (s.latest + 1) cs) p)
-    ∙ dated_changes (s.latest + 1) cs (needed_of s) (dated_part (needed s.latest s.pins) s.latest s.kept good.dates)
-
-pub writes_apart : (s : Store) (cs : List Change) (part kept : List Version) → part ≡ needed_of s → kept ≡ changed_by_all (s.latest + 1) cs part → Good s → (m : ℕ) → unique (rows_at m kept) ≡ true
-writes_apart s cs part kept p k good m =
-    ap (λ vs. unique (rows_at m vs)) (k ∙ ap (changed_by_all (s.latest + 1) cs) p)
-    ∙ apart_changes (s.latest + 1) cs (needed_of s) (dated_part (needed s.latest s.pins) s.latest s.kept good.dates) (λ n. unique_part (needed s.latest s.pins) n s.kept (good.apart n)) m
+pub wrote_apart : (s z : Store) (cs : List Change) → z ≡ written cs s → Good s → (m : ℕ) → unique (rows_at m z.kept) ≡ true
+wrote_apart s z cs is good m =
+    let P : Store → Type 0 = λ k. unique (rows_at m k.kept) ≡ true in
+    subst P (sym is) (apart_changes (s.latest + 1) cs (needed_of s) (dated_part (needed s.latest s.pins) s.latest s.kept good.dates) (λ n. unique_part (needed s.latest s.pins) n s.kept (good.apart n)) m)
 
 -- the needed versions are at most the places
 pub needed_few : (s : Store) → Good s → length (needed_of s) ≤ s.places

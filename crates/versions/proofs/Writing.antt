@@ -15,8 +15,9 @@ use Rattle.database.specs.Lists.{any, every, among}
 use Rattle.database.specs.States.{Records}
 use Rattle.database.specs.Rows.{holding, present, unique}
 use Rattle.database.specs.Writes.{put, changed}
-use Rattle.versions.specs.declared.version.Version.{Version}
-use Rattle.versions.specs.Versions.{lasts, visible, rows_at, needed, current, retired, fresh, changed_by, changed_by_all, replaced_by, dated}
+use Rattle.validity.specs.declared.version.Version.{Version}
+use Rattle.validity.specs.Versions.{lasts, visible, rows_at, replaced_upto, dated}
+use Rattle.versions.specs.Versions.{needed, current, retired, fresh, changed_by, changed_by_all}
 use Rattle.database.proofs.Sets.{every_append}
 
 -- a version visible at a held moment is needed, so the records of a held moment stay
@@ -86,7 +87,7 @@ rows_before n N (c ∷ cs) vs h =
     ∙ rows_retired n N (change_id c) vs h
 
 -- at and after the last date of all versions the same ones are visible
-late_lasts : (N m : ℕ) (replaced : Option ℕ) → N ≤ m → replaced_by N replaced ≡ true → lasts replaced m ≡ current replaced
+late_lasts : (N m : ℕ) (replaced : Option ℕ) → N ≤ m → replaced_upto N replaced ≡ true → lasts replaced m ≡ current replaced
 late_lasts N m None h d = refl
 late_lasts N m (Some r) h d = let e = leb-true r N d in le-ltb m r (omega arith)
 
@@ -174,7 +175,7 @@ put_holding (Set id value) (row ∷ rows) t k = put_cons (Set id value) row rows
 put_holding (Delete id) (row ∷ rows) t k = put_cons (Delete id) row rows t k (put_holding (Delete id) rows t k)
 
 -- the dates stay
-dated_replaced : (N : ℕ) (replaced : Option ℕ) (b : Bool) → replaced_by N replaced ≡ true → replaced_by N (cond (current replaced && b) (Some N) replaced) ≡ true
+dated_replaced : (N : ℕ) (replaced : Option ℕ) (b : Bool) → replaced_upto N replaced ≡ true → replaced_upto N (cond (current replaced && b) (Some N) replaced) ≡ true
 dated_replaced N None true d = le-leb N N (omega arith)
 dated_replaced N None false d = refl
 dated_replaced N (Some r) b d = d
@@ -183,7 +184,7 @@ dated_retired : (N : ℕ) (id : RecordId) (v : Version) → dated N v ≡ true �
 dated_retired N id v d =
     let parts = retired_parts N id v in
     let both = and_parts _ _ d in
-    and_from _ _ (ap (λ m. leb m N) parts.1 ∙ both.0) (ap (replaced_by N) parts.2 ∙ dated_replaced N v.replaced (is_id id v.row.id) both.1)
+    and_from _ _ (ap (λ m. leb m N) parts.1 ∙ both.0) (ap (replaced_upto N) parts.2 ∙ dated_replaced N v.replaced (is_id id v.row.id) both.1)
 
 dated_all : (N : ℕ) (id : RecordId) (vs : List Version) → every (dated N) vs ≡ true → every (dated N) (map (retired N id) vs) ≡ true
 dated_all N id [] d = refl
@@ -293,7 +294,7 @@ pub apart_changes : (N : ℕ) (cs : List Change) (vs : List Version) → every (
 apart_changes N [] vs d u = u
 apart_changes N (c ∷ cs) vs d u = apart_changes N cs (changed_by N c vs) (dated_change N c vs d) (apart_change N c vs d u)
 
-dated_later : (l : ℕ) (replaced : Option ℕ) → replaced_by l replaced ≡ true → replaced_by (l + 1) replaced ≡ true
+dated_later : (l : ℕ) (replaced : Option ℕ) → replaced_upto l replaced ≡ true → replaced_upto (l + 1) replaced ≡ true
 dated_later l None d = refl
 dated_later l (Some r) d = let e = leb-true r l d in le-leb r (l + 1) (omega arith)
 

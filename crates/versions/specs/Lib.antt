@@ -1,4 +1,3 @@
 pub mod Versions
-pub mod Scans
 pub mod Stores
 pub mod Soundness

@@ -7,7 +7,7 @@ use Rattle.std.proofs.lemmas.List.Sums.{length-filter, count_by-le-length}
 use Rattle.database.specs.Databases.{Sound}
 use Rattle.database.proofs.Rows.{few_keys, keys_in}
 use Rattle.database.proofs.Sets.{every_among}
-use Rattle.versions.specs.Versions.{visible, rows_at}
+use Rattle.validity.specs.Versions.{visible, rows_at}
 use Rattle.versions.specs.declared.store.VersionStore.{VersionStore}
 use Rattle.versions.specs.Stores.{Store, store_of, meaning, Good}
 
@@ -16,10 +16,10 @@ pub good : (s : VersionStore) → Good (store_of s)
 good s = record {
   size = s.size;
   fits = omega (arith, s.fits, s.versions.ok.0);
-  moment = s.moment;
-  few = omega (arith, s.pins.few, s.pins.moments.ok.0);
-  once = s.pins.once;
-  past = s.past;
+  moment = s.snapshots.moment;
+  few = omega (arith, s.snapshots.pins.few, s.snapshots.pins.moments.ok.0);
+  once = s.snapshots.pins.once;
+  past = s.snapshots.past;
   dates = s.dated;
   apart = s.apart;
 }

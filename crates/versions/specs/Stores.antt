@@ -10,9 +10,10 @@ use Rattle.database.specs.declared.Answer.{Answer}
 use Rattle.database.specs.Lists.{every, distinct, added, without}
 use Rattle.database.specs.Rows.{unique, read_rows}
 use Rattle.database.specs.Databases.{Db}
-use Rattle.versions.specs.declared.version.Version.{Version}
+use Rattle.validity.specs.declared.version.Version.{Version}
+use Rattle.validity.specs.Versions.{rows_at, dated}
 use Rattle.versions.specs.declared.store.VersionStore.{VersionStore}
-use Rattle.versions.specs.Versions.{rows_at, state_at, needed, validity, changed_by_all, dated}
+use Rattle.versions.specs.Versions.{state_at, needed, validity, changed_by_all}
 
 -- the places, the latest moment, the pinned moments and the kept versions
 pub record Store : Type 0 where
@@ -23,7 +24,7 @@ pub record Store : Type 0 where
 
 -- what lies in memory
 abbrev pub store_of : VersionStore → Store
-store_of s = record { places = s.places; latest = s.latest; pins = vec_items s.pins.moments; kept = vec_items s.versions }
+store_of s = record { places = s.places; latest = s.snapshots.latest; pins = vec_items s.snapshots.pins.moments; kept = vec_items s.versions }
 
 -- the versions visible at a held moment
 abbrev pub needed_of : Store → List Version

@@ -2,11 +2,8 @@
 #![tactic(auto)]
 
 mod calls;
-mod scan;
-mod scanning;
 mod store;
-mod version;
 mod walks;
 
 pub use store::VersionStore;
-pub use version::Version;
+pub use validity::Version;

@@ -1,54 +1,72 @@
-// Steps over lists of versions.
-ghost use Rattle.std.specs.Prelude.{◌≡◌, ◌+◌, ◌≤◌, map, length, vec_len, vec_capacity};
-ghost use Rattle.versions.specs.Versions.{visible, retired, changed_by, changed_by_all};
+// Walks over lists of versions.
+ghost use Rattle.std.specs.Prelude.{◌≡◌, ◌+◌, ◌<◌, ◌≤◌, length, vec_len, vec_capacity, filter};
+ghost use Rattle.database.specs.Lists.{any};
+ghost use Rattle.validity.specs.Versions.{visible};
+ghost use Rattle.validity.specs.Scans.{found};
+ghost use Rattle.versions.specs.Versions.{counted, needed, retired, changed_by, changed_by_all};
 
-use crate::version::Version;
+use database::snapshots::Snapshots;
 use terms::{Change, Moment, Query, RecordId, Row};
+use validity::{Scan, Version};
 
-// Whether a version is visible at a moment.
-pub(crate) fn is_visible(version: Version, moment: Moment) -> bool
-    ensures { result ≡ visible moment version }
+// Whether the version is visible at one of the moments.
+fn is_seen(version: Version, moments: &[Moment]) -> bool
+    ensures { result ≡ any (λ moment. visible moment version) moments.now }
 {
-    let lasts = match version.replaced {
-        Some(replaced) => moment < replaced,
-        None => true,
-    };
-    version.made <= moment && lasts
+    moments.iter().any(|moment| version.is_visible(*moment))
+}
+
+// Whether the version is visible at a held moment.
+fn is_needed(version: Version, snapshots: &Snapshots) -> bool
+    ensures { result ≡ needed snapshots.now.latest snapshots.now.pins.moments.items version }
+{
+    version.is_visible(snapshots.latest()) || is_seen(version, snapshots.pins())
+}
+
+// How many versions are visible at a held moment.
+pub(crate) fn count_needed(versions: &[Version], snapshots: &Snapshots) -> usize
+    ensures { result ≡ length (filter (needed snapshots.now.latest snapshots.now.pins.moments.items) versions.now) }
+{
+    versions
+        .iter()
+        .filter(|version| is_needed(**version, snapshots))
+        .count()
+}
+
+// Lets go of the versions that are visible at no held moment.
+pub(crate) fn discard(versions: &mut Vec<Version>, snapshots: &Snapshots)
+    ensures items { versions.new.items ≡ filter (needed snapshots.now.latest snapshots.now.pins.moments.items) versions.old.items }
+    ensures capacity { vec_capacity versions.new ≡ vec_capacity versions.old }
+{
+    versions.retain(|version| is_needed(*version, snapshots));
 }
 
 // The version as it is after its record was changed at a moment.
 fn retire(version: Version, moment: Moment, id: RecordId) -> Version
     ensures { result ≡ retired moment id version }
 {
-    match version.replaced {
-        None if id.is(version.row.id) => Version {
+    if version.replaced.is_none() && id == version.row.id {
+        Version {
             replaced: Some(moment),
             ..version
-        },
-        _ => version,
-    }
-}
-
-// The present version of the record ends at the moment.
-fn retire_all(versions: &mut Vec<Version>, moment: Moment, id: RecordId)
-    ensures items { versions.new.items ≡ map (retired moment id) versions.old.items }
-    ensures capacity { vec_capacity versions.new ≡ vec_capacity versions.old }
-    ensures len { vec_len versions.new ≡ vec_len versions.old }
-{
-    for i in 0..versions.len() {
-        let version = versions[i];
-        versions[i] = retire(version, moment, id);
+        }
+    } else {
+        version
     }
 }
 
 // One change: the present version of its record ends, and a set makes one.
+#[tactic(auto, using(crate::proofs::Maps::map_at, crate::proofs::Maps::map_all))]
 fn change_one(versions: &mut Vec<Version>, moment: Moment, change: Change)
     requires { vec_len versions.old + 1 ≤ vec_capacity versions.old }
     ensures items { versions.new.items ≡ changed_by moment change versions.old.items }
     ensures capacity { vec_capacity versions.new ≡ vec_capacity versions.old }
     ensures len { vec_len versions.new ≤ vec_len versions.old + 1 }
 {
-    retire_all(versions, moment, change.id());
+    let changed = change.id();
+    for version in versions.iter_mut() {
+        *version = retire(*version, moment, changed);
+    }
     if let Change::Set { id, value } = change {
         versions.push_reserved(Version {
             row: Row { id, value },
@@ -68,4 +86,16 @@ pub(crate) fn change_all(versions: &mut Vec<Version>, moment: Moment, changes: &
     for change in changes {
         change_one(versions, moment, *change);
     }
+}
+
+// What the versions tell of a query at a moment, in one pass.
+pub(crate) fn scan_all(versions: &[Version], moment: Moment, query: Query) -> Scan
+    requires { length versions.now < 4294967295 }
+    ensures { result ≡ found counted moment query versions.now }
+{
+    let mut scan = Scan::new(moment, query);
+    for version in versions {
+        scan = scan.with(*version, true);
+    }
+    scan
 }

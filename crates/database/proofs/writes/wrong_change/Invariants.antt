@@ -1,6 +1,0 @@
-use Rattle.std.proofs.Common.{◌≡◌, [], take, drop}
-use Rattle.database.specs.Writes.{wrong_change}
-use Rattle.database.proofs.writes.wrong_change.Given as goal
-
-abbrev pub invariant-loop-index : goal.invariant-loop-index
-invariant-loop-index l = wrong_change (take l.index l.changes) (drop l.index l.changes) ≡ wrong_change [] l.changes

@@ -1,0 +1,65 @@
+-- One pass over versions: what it has found after some of them, and what one more adds.
+use Rattle.std.specs.Prelude.{ℕ, ◌+◌, min, max, Bool, cond, List, Some, None, Option, nat_le}
+use Rattle.terms.specs.declared.record.Row.{Row}
+use Rattle.terms.specs.declared.record.Query.{Query}
+use Rattle.terms.specs.declared.record.Query.TheVariants.{Get, Tally}
+use Rattle.terms.specs.Records.{Reading, shown, query_tag}
+use Rattle.database.specs.declared.Answer.{Answer}
+use Rattle.database.specs.Rows.{matches, read_rows}
+use Rattle.validity.specs.declared.scan.Scan.{Scan}
+use Rattle.validity.specs.declared.version.Version.{Version}
+use Rattle.validity.specs.Turns.{first_of, end_of, until_of}
+use Rattle.validity.specs.Versions.{visible, rows_at, turns_among}
+
+-- what a pass for a query at a moment has found of these present records and these turns
+abbrev pub summary : ℕ → Query → List Row → List ℕ → Scan
+summary moment query rows turns = record { query = query; moment = moment; reading = read_rows query rows; first = first_of moment turns; end = end_of moment turns }
+
+-- what it has found of these versions, where the made moments of some count
+abbrev pub found : (Version → Bool) → ℕ → Query → List Version → Scan
+found counts moment query versions = summary moment query (rows_at moment versions) (turns_among counts query versions)
+
+-- one more turn
+abbrev pub first_with : ℕ → ℕ → ℕ → ℕ
+first_with moment turn first = cond (nat_le turn moment) (max first turn) first
+
+abbrev pub smaller : Option ℕ → ℕ → Option ℕ
+smaller None turn = Some turn
+smaller (Some end) turn = Some (min end turn)
+
+abbrev pub end_with : ℕ → ℕ → Option ℕ → Option ℕ
+end_with moment turn end = cond (nat_le turn moment) end (smaller end turn)
+
+abbrev pub turned_by : ℕ → Scan → Scan
+turned_by turn scan = record scan { first = first_with scan.moment turn scan.first; end = end_with scan.moment turn scan.end }
+
+-- one more record that the query reads; a count stays at the highest 32-bit number
+abbrev pub read_more : Query → Reading → Row → Reading
+read_more (Get id) None row = shown (Some row.value)
+read_more (Get id) (Some pair) row = Some pair
+read_more (Tally table state) None row = Some (1, row.id.key)
+read_more (Tally table state) (Some pair) row = Some (min (pair.0 + 1) 4294967295, min pair.1 row.id.key)
+
+abbrev pub read_by : Row → Scan → Scan
+read_by row scan = record scan { reading = read_more scan.query scan.reading row }
+
+abbrev pub turned_if : Bool → ℕ → Scan → Scan
+turned_if counts turn scan = cond counts (turned_by turn scan) scan
+
+abbrev pub turned_again : Option ℕ → Scan → Scan
+turned_again None scan = scan
+turned_again (Some turn) scan = turned_by turn scan
+
+abbrev pub read_if : Bool → Row → Scan → Scan
+read_if seen row scan = cond seen (read_by row scan) scan
+
+-- one more version, whose made moment counts where that is told
+abbrev pub scanned : Bool → Version → Scan → Scan
+scanned told version scan =
+    cond (matches scan.query version.row)
+    (read_if (visible scan.moment version) version.row (turned_again version.replaced (turned_if told version.made scan)))
+    scan
+
+-- the answer that a pass has found
+abbrev pub scan_answer : ℕ → Scan → Answer
+scan_answer latest scan = record { reading = scan.reading; tag = query_tag scan.query; interval = record { first = scan.first; until = until_of latest scan.end } }
