@@ -1,5 +1,5 @@
 -- Lists, and lists of numbers as sets.
-use Rattle.std.specs.Prelude.{ℕ, min, Bool, true, false, cond, not, ◌&&◌, ◌||◌, List, [], ◌∷◌, ◌++◌, filter, ◌==◌, nat_eq}
+use Rattle.std.specs.Prelude.{ℕ, min, Bool, true, cond, not, ◌&&◌, List, [], ◌∷◌, ◌++◌, filter, ◌==◌, nat_eq}
 use Rattle.std.specs.List.{list_any, list_all}
 
 -- whether an element passes the test

@@ -1,23 +1,25 @@
 -- What each call makes of the store is what a database means by it.
-use Rattle.std.proofs.Common.{◌≡◌, ℕ, ◌+◌, ◌-◌, ◌≤◌, Bool, true, false, ◌&&◌, ltb, leb, List, [], ◌∷◌, length, drop, vec_items, sym, refl, ap, ◌∙◌, subst, ⊎_elim, arith}
-use Rattle.std.proofs.lemmas.Bool.{cases_Bool, leb-true, le-leb, and_from, and_parts, or_right, or_left, eq-eqb}
+use Rattle.std.proofs.Common.{◌≡◌, ℕ, ◌+◌, ◌-◌, ◌≤◌, min, Bool, true, false, leb, List, [], ◌∷◌, length, drop, Some, None, sym, refl, ap, ◌∙◌, subst, ⊎_elim, arith}
+use Rattle.std.proofs.lemmas.Bool.{cases_Bool, leb-true, le-leb, and_from, or_right, or_left, eq-eqb}
 use Rattle.terms.specs.declared.record.Change.{Change}
-use Rattle.terms.specs.Moments.{highest, is_moment}
+use Rattle.terms.specs.Moments.{highest}
 use Rattle.database.specs.Lists.{every, among}
 use Rattle.database.specs.Rows.{holding, unique}
 use Rattle.database.specs.Databases.{Written}
+use Rattle.database.specs.Writes.{refusal}
+use Rattle.database.proofs.Changes.{no_refusal}
 use Rattle.database.proofs.Sets.{every_among, least_among, least_below}
-use Rattle.line.specs.Rings.{waiting}
+use Rattle.line.specs.declared.line.Line.{Line}
+use Rattle.line.specs.Rings.{waiting, Made}
 use Rattle.line.proofs.Rings.{length_waiting_fits, waiting_none}
 use Rattle.undo.specs.Soundness.{good}
 use Rattle.undo.specs.declared.entry.Present.{Present}
 use Rattle.undo.specs.declared.entry.Entry.{Entry}
-use Rattle.undo.specs.declared.ledger.Ledger.{Ledger}
 use Rattle.undo.specs.declared.store.UndoStore.{UndoStore}
-use Rattle.undo.specs.Ledgers.{Grown}
 use Rattle.undo.specs.Journals.{undone, later, rows_of, state_at, present_after_all, entries_after_all, ascending}
-use Rattle.undo.specs.Versions.{versions, dated, rightly, is_shown}
-use Rattle.undo.specs.Stores.{Store, store_from, store_of, empty_at, in_range, meaning, lowest, needed_of, written, Good}
+use Rattle.validity.specs.Versions.{dated}
+use Rattle.undo.specs.Versions.{versions, rightly, is_shown}
+use Rattle.undo.specs.Stores.{Store, store_of, empty_at, meaning, lowest, needed_of, written, Good}
 use Rattle.undo.proofs.Undoing.{later_later, states_before, state_late, changed_same, put_presents, commits_later, commits_changes, ascending_later, ascending_changes, newest}
 use Rattle.undo.proofs.Telling.{dated_part, dated_changes, told_part, told_changes}
 use Rattle.undo.proofs.Showing.{unique_changes, shown_written}
@@ -90,43 +92,38 @@ lasting s cs good =
       apart = shown_written s.floor low l cs ps es (lowest_floor s good) good.single dates commits good.apart;
     }
 
--- the store with the needed entries and the changes, as a write leaves it
-abbrev pub left_by : Store → ℕ → List Present → List Entry → Store
-left_by s low ps es = record { size = s.size; latest = s.latest + 1; floor = low; pins = s.pins; present = ps; entries = es }
+-- a store that has, at the moment m after the latest, the needed entries and the present records with the changes
+pub wrote : (s z : Store) (cs : List Change) (part : List Entry) (m : ℕ) → refusal s.latest (meaning s).free cs ≡ None → z.size ≡ s.size → z.latest ≡ min (s.latest + 1) highest → m ≡ z.latest → z.floor ≡ lowest s → z.pins ≡ s.pins
+    → part ≡ needed_of s → z.present ≡ present_after_all m cs s.present → z.entries ≡ entries_after_all m cs s.present part → z ≡ written cs s
+wrote s z cs part m none size least answer floor pins p present entries =
+    let room = no_refusal s.latest (meaning s).free cs none in
+    let latest : z.latest ≡ s.latest + 1 = omega (arith, room.0) in
+    let at = answer ∙ latest in
+    let made : ℕ → ℕ → ℕ → List ℕ → List Present → List Entry → Store = λ size latest floor pins present entries. record { size = size; latest = latest; floor = floor; pins = pins; present = present; entries = entries } in
+    ap (λ k. made k z.latest z.floor z.pins z.present z.entries) size
+    ∙ ap (λ k. made s.size k z.floor z.pins z.present z.entries) latest
+    ∙ ap (λ k. made s.size (s.latest + 1) k z.pins z.present z.entries) floor
+    ∙ ap (λ k. made s.size (s.latest + 1) (lowest s) k z.present z.entries) pins
+    ∙ ap (λ k. made s.size (s.latest + 1) (lowest s) s.pins k z.entries) (present ∙ ap (λ n. present_after_all n cs s.present) at)
+    ∙ ap (made s.size (s.latest + 1) (lowest s) s.pins (present_after_all (s.latest + 1) cs s.present)) (entries ∙ ap (λ n. entries_after_all n cs s.present part) at ∙ ap (entries_after_all (s.latest + 1) cs s.present) p)
 
-pub writes_to : (s : Store) (cs : List Change) (low : ℕ) (part es : List Entry) (ps : List Present) → low ≡ lowest s → part ≡ needed_of s
-    → ps ≡ present_after_all (s.latest + 1) cs s.present → es ≡ entries_after_all (s.latest + 1) cs s.present part → left_by s low ps es ≡ written cs s
-writes_to s cs low part es ps a b c d =
-    ap (λ x. left_by s x ps es) a ∙ ap (λ x. left_by s (lowest s) x es) c ∙ ap (left_by s (lowest s) (present_after_all (s.latest + 1) cs s.present)) (d ∙ ap (entries_after_all (s.latest + 1) cs s.present) b)
+pub wrote_lasting : (s z : Store) (cs : List Change) → z ≡ written cs s → Good s → Lasting z
+wrote_lasting s z cs is good = subst Lasting (sym is) (lasting s cs good)
 
-pub writes_lasting : (s : Store) (cs : List Change) (t : Store) → t ≡ written cs s → Good s → Lasting t
-writes_lasting s cs t e good = subst Lasting (sym e) (lasting s cs good)
-
-pub writes_mean : (s : Store) (cs : List Change) (t : Store) → t ≡ written cs s → Good s → Written (meaning s) cs (s.latest + 1) (meaning t)
-writes_mean s cs t e good = let P : Store → Type 0 = λ z. Written (meaning s) cs (s.latest + 1) (meaning z) in subst P (sym e) (writes s cs good)
+pub wrote_means : (s z : Store) (cs : List Change) (m : ℕ) → m ≡ z.latest → z ≡ written cs s → Good s → Written (meaning s) cs m (meaning z)
+wrote_means s z cs m answer is good =
+    let P : Store → Type 0 = λ k. Written (meaning s) cs k.latest (meaning k) in
+    let Q : ℕ → Type 0 = λ n. Written (meaning s) cs n (meaning z) in
+    subst Q (sym answer) (subst P (sym is) (writes s cs good))
 
 -- the entries that a write has kept are the needed ones
 pub needed_part : (s : UndoStore) (low n : ℕ) (part : List Entry) → low ≡ lowest (store_of s) → n ≡ length (later low (waiting s.ledger.line s.ledger.journal.now))
     → part ≡ drop (s.ledger.line.len - n) (waiting s.ledger.line s.ledger.journal.now) → part ≡ needed_of (store_of s)
 needed_part s low n part l is e =
     let es = waiting s.ledger.line s.ledger.journal.now in
-    let few : length es ≡ s.ledger.line.len = length_waiting_fits s.ledger.line s.ledger.journal.now s.fits in
+    let few : length es ≡ s.ledger.line.len = length_waiting_fits s.ledger.line s.ledger.journal.now s.ledger.fits in
     let gone : s.ledger.line.len - n ≡ length es - length (later low es) = omega arith in
     e ∙ ap (λ k. drop k es) gone ∙ newest low es s.ascends ∙ ap (λ m. later m es) l
-
--- what a write leaves in memory
-pub writes_left : (s : UndoStore) (cs : List Change) (low : ℕ) (kept left : Ledger) → low ≡ lowest (store_of s) → waiting kept.line kept.journal.now ≡ needed_of (store_of s)
-    → kept.present ≡ s.ledger.present → kept.line.size ≡ s.ledger.line.size → Grown (length cs) kept left
-    → vec_items left.present ≡ present_after_all (s.latest + 1) cs (vec_items kept.present)
-    → waiting left.line left.journal.now ≡ entries_after_all (s.latest + 1) cs (vec_items kept.present) (waiting kept.line kept.journal.now)
-    → store_from (s.latest + 1) low (vec_items s.pins.moments) left ≡ written cs (store_of s)
-writes_left s cs low kept left l part same size grown ps es =
-    let N = s.latest + 1 in
-    let S : ℕ → Store = λ n. record { size = n; latest = N; floor = low; pins = vec_items s.pins.moments; present = vec_items left.present; entries = waiting left.line left.journal.now } in
-    ap S (grown.size ∙ size)
-    ∙ writes_to (store_of s) cs low (waiting kept.line kept.journal.now) (waiting left.line left.journal.now) (vec_items left.present) l part
-    (ps ∙ ap (λ p. present_after_all N cs (vec_items p)) same)
-    (es ∙ ap (λ p. entries_after_all N cs (vec_items p) (waiting kept.line kept.journal.now)) same)
 
 -- an empty store
 empty : (size first : ℕ) → Lasting (empty_at size first)
@@ -141,21 +138,18 @@ empty size first = record {
   apart = λ m t k. ⊎_elim (λ (e : leb first m ≡ true). rw e refl) (λ (e : leb first m ≡ false). rw e refl) (cases_Bool (leb first m));
 }
 
-pub made_empty : (l : Ledger) (pins : List ℕ) (size first : ℕ) → pins ≡ [] → vec_items l.present ≡ [] → l.line.len ≡ 0 → l.line.size ≡ size → store_from first first pins l ≡ empty_at size first
-made_empty l pins size first p e none s =
-    let S : ℕ → List ℕ → List Present → List Entry → Store = λ n pins ps es. record { size = n; latest = first; floor = first; pins = pins; present = ps; entries = es } in
-    ap (λ n. S n pins (vec_items l.present) (waiting l.line l.journal.now)) s
-    ∙ ap (λ xs. S size xs (vec_items l.present) (waiting l.line l.journal.now)) p
-    ∙ ap (λ ps. S size [] ps (waiting l.line l.journal.now)) e
-    ∙ ap (S size [] []) (waiting_none l.line l.journal.now none)
+-- what a making leaves in memory
+abbrev pub made_of : Line → List Entry → List Present → ℕ → ℕ → List ℕ → Store
+made_of line room present latest first pins = record { size = line.size; latest = latest; floor = first; pins = pins; present = present; entries = waiting line room }
+
+pub made_empty : (line : Line) (room : List Entry) (present : List Present) (latest first size : ℕ) (pins : List ℕ) → Made size (Some line) → present ≡ [] → latest ≡ first → pins ≡ [] → made_of line room present latest first pins ≡ empty_at size first
+made_empty line room present latest first size pins made none at unpinned =
+    let S : ℕ → ℕ → List ℕ → List Present → List Entry → Store = λ n latest pins ps es. record { size = n; latest = latest; floor = first; pins = pins; present = ps; entries = es } in
+    ap (λ n. S n latest pins present (waiting line room)) made.0
+    ∙ ap (λ n. S size n pins present (waiting line room)) at
+    ∙ ap (λ xs. S size first xs present (waiting line room)) unpinned
+    ∙ ap (λ ps. S size first [] ps (waiting line room)) none
+    ∙ ap (S size first [] []) (waiting_none line room made.2)
 
 pub made_lasting : (t : Store) (size first : ℕ) → t ≡ empty_at size first → Lasting t
 made_lasting t size first e = subst Lasting (sym e) (empty size first)
-
-pub size_range : (size first : ℕ) → in_range size first ≡ true → size ≤ 4096
-size_range size first r =
-    let parts = and_parts (ltb 0 size) (leb size 4096 && is_moment first) r in leb-true size 4096 (and_parts (leb size 4096) (is_moment first) parts.1).0
-
-pub first_range : (size first : ℕ) → in_range size first ≡ true → first ≤ highest
-first_range size first r =
-    let parts = and_parts (ltb 0 size) (leb size 4096 && is_moment first) r in leb-true first highest (and_parts (leb size 4096) (is_moment first) parts.1).1

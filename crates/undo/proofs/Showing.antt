@@ -16,9 +16,10 @@ use Rattle.undo.specs.Soundness.{only, only_few, shown_from}
 use Rattle.undo.specs.declared.entry.Held.{Held}
 use Rattle.undo.specs.declared.entry.Present.{Present}
 use Rattle.undo.specs.declared.entry.Entry.{Entry}
-use Rattle.undo.specs.declared.entry.Version.{Version}
+use Rattle.validity.specs.declared.version.Version.{Version}
+use Rattle.validity.specs.Versions.{visible, rows_at, dated}
 use Rattle.undo.specs.Journals.{undone, later, rows_of, state_at, held_of, other_than, fresh, present_after, entries_by, present_after_all, entries_after_all}
-use Rattle.undo.specs.Versions.{current, former, replaced_by, versions, visible, rows_at, dated, values_in, is_only, is_shown}
+use Rattle.undo.specs.Versions.{current, former, replaced_by, versions, values_in, is_only, is_shown}
 use Rattle.undo.proofs.Undoing.{later_later, states_before, state_late, commits_changes}
 use Rattle.undo.proofs.Telling.{joined_append, versions_change, dated_changes}
 

@@ -15,9 +15,10 @@ use Rattle.database.proofs.Sets.{every_append, every_weaker}
 use Rattle.undo.specs.declared.entry.Held.{Held}
 use Rattle.undo.specs.declared.entry.Present.{Present}
 use Rattle.undo.specs.declared.entry.Entry.{Entry}
-use Rattle.undo.specs.declared.entry.Version.{Version}
+use Rattle.validity.specs.declared.version.Version.{Version}
+use Rattle.validity.specs.Versions.{replaced_upto, dated}
 use Rattle.undo.specs.Journals.{later, held_of, other_than, fresh, present_after, leaves, entries_by, present_after_all, entries_after_all}
-use Rattle.undo.specs.Versions.{current, former, replaced_by, versions, tells, is_told, replaced_upto, dated, rightly}
+use Rattle.undo.specs.Versions.{current, former, replaced_by, versions, tells, is_told, rightly}
 
 pub joined_append : {X Y : Type 0} (f : X → List Y) (xs ys : List X) → flat_map f (xs ++ ys) ≡ flat_map f xs ++ flat_map f ys
 joined_append f [] ys = refl

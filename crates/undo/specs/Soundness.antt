@@ -5,11 +5,10 @@ use Rattle.database.specs.Databases.{Sound, held}
 use Rattle.database.specs.Rows.{holding, present, unique}
 use Rattle.database.specs.States.{KeysIn, Records, in_state, seen}
 use Rattle.line.proofs.Rings.{length_waiting_le}
-use Rattle.std.proofs.Common.{ℕ, ⊎_elim, List, None, Option, Some, [], ap, arith, cond, eqb, false, filter, leb, length, map, refl, sym, true, ◌&&◌, ◌+◌, ◌∙◌, ◌∷◌, ◌≡◌, ◌≤◌}
+use Rattle.std.proofs.Common.{ℕ, ⊎_elim, List, None, Option, Some, [], ap, arith, cond, eqb, false, leb, length, map, refl, sym, true, ◌&&◌, ◌+◌, ◌∙◌, ◌∷◌, ◌≡◌, ◌≤◌}
 use Rattle.std.proofs.lemmas.Bool.{and_from, cases_Bool, cond-true, eq-eqb, le-leb, leb-true}
 use Rattle.std.proofs.lemmas.Bool.Decides.{nat_tests as telling}
 use Rattle.std.proofs.lemmas.List.{length-append, length-map}
-use Rattle.std.proofs.lemmas.List.Sums.{count_by-le-length, length-filter}
 use Rattle.std.specs.List.{flat_map}
 use Rattle.terms.specs.Records.{is_id, known_table}
 use Rattle.terms.specs.declared.record.RecordId.{RecordId}
@@ -17,11 +16,12 @@ use Rattle.terms.specs.declared.record.Row.{Row}
 use Rattle.terms.specs.declared.record.Value.{Value}
 use Rattle.undo.specs.Journals.{state_at}
 use Rattle.undo.specs.Stores.{Good, Store, meaning, store_of}
-use Rattle.undo.specs.Versions.{current, former, is_only, is_shown, replaced_by, rows_at, values_in, versions, visible}
+use Rattle.validity.specs.Versions.{rows_at}
+use Rattle.validity.proofs.Passes.{few_rows}
+use Rattle.undo.specs.Versions.{current, former, is_only, is_shown, replaced_by, values_in, versions}
 use Rattle.undo.specs.declared.entry.Entry.{Entry}
 use Rattle.undo.specs.declared.entry.Held.{Held}
 use Rattle.undo.specs.declared.entry.Present.{Present}
-use Rattle.undo.specs.declared.entry.Version.{Version}
 use Rattle.undo.specs.declared.store.UndoStore.{UndoStore}
 
 -- one value, or none
@@ -50,13 +50,6 @@ only_few (Some w) = omega arith
 -- what is shown, as an equation, and back
 pub shown_from : (floor m t k : ℕ) (ps : List Present) (es : List Entry) → is_shown floor ps es m t k ≡ true → floor ≤ m → values_in (rows_at m (versions ps es)) t k ≡ only (state_at ps es m t k)
 shown_from floor m t k ps es s h = only_from _ _ (sym (cond-true (leb floor m) _ _ (le-leb floor m h)) ∙ s)
-
-pub few_rows : (m : ℕ) (vs : List Version) → length (rows_at m vs) ≤ length vs
-few_rows m vs =
-    let a = length-map (filter (visible m) vs) (λ version. version.row) in
-    let b = length-filter (visible m) vs in
-    let c = count_by-le-length (visible m) vs in
-    omega arith
 
 -- one more entry
 former_few : (id : RecordId) (commit : ℕ) (held : Option Held) → length (former id commit held) ≤ 1
@@ -138,10 +131,10 @@ good s =
       size = s.size;
       rows = omega (arith, s.rows, s.ledger.present.ok.0);
       places = omega (arith, length_waiting_le l s.ledger.journal.now, l.few);
-      moment = s.moment;
-      few = omega (arith, s.pins.few, s.pins.moments.ok.0);
-      once = s.pins.once;
-      past = s.past;
+      moment = s.snapshots.moment;
+      few = omega (arith, s.snapshots.pins.few, s.snapshots.pins.moments.ok.0);
+      once = s.snapshots.pins.once;
+      past = s.snapshots.past;
       kept = s.kept;
       single = s.single;
       ascends = s.ascends;

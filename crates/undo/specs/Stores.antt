@@ -8,7 +8,8 @@ use Rattle.terms.specs.declared.fault.Fault.TheVariants.{OutOfRange, OutOfMemory
 use Rattle.terms.specs.Moments.{highest, is_moment}
 use Rattle.database.specs.Lists.{every, distinct, least, added, without}
 use Rattle.database.specs.Rows.{unique}
-use Rattle.database.specs.Turns.{between}
+use Rattle.validity.specs.Turns.{between}
+use Rattle.validity.specs.Versions.{dated}
 use Rattle.database.specs.Databases.{Db}
 use Rattle.line.specs.Rings.{waiting}
 use Rattle.undo.specs.declared.entry.Present.{Present}
@@ -16,7 +17,7 @@ use Rattle.undo.specs.declared.entry.Entry.{Entry}
 use Rattle.undo.specs.declared.ledger.Ledger.{Ledger}
 use Rattle.undo.specs.declared.store.UndoStore.{UndoStore}
 use Rattle.undo.specs.Journals.{later, rows_of, state_at, present_after_all, entries_after_all, ascending}
-use Rattle.undo.specs.Versions.{versions, turns_of, dated, rightly, is_shown}
+use Rattle.undo.specs.Versions.{versions, turns_of, rightly, is_shown}
 
 -- the size, the latest moment, the floor up to which entries have been discarded, the pinned moments,
 -- the present records, and the kept entries, oldest first
@@ -120,4 +121,4 @@ pub record Good (s : Store) : Type 0 where
 
 -- what lies in memory
 abbrev pub store_of : UndoStore → Store
-store_of s = store_from s.latest s.floor (vec_items s.pins.moments) s.ledger
+store_of s = store_from s.snapshots.latest s.floor (vec_items s.snapshots.pins.moments) s.ledger

@@ -7,11 +7,11 @@ use Rattle.terms.specs.declared.record.Row.{Row}
 use Rattle.terms.specs.declared.record.Query.{Query}
 use Rattle.terms.specs.Records.{is_id}
 use Rattle.database.specs.Lists.{any}
-use Rattle.database.specs.Rows.{matches}
 use Rattle.undo.specs.declared.entry.Held.{Held}
 use Rattle.undo.specs.declared.entry.Present.{Present}
 use Rattle.undo.specs.declared.entry.Entry.{Entry}
-use Rattle.undo.specs.declared.entry.Version.{Version}
+use Rattle.validity.specs.declared.version.Version.{Version}
+use Rattle.validity.specs.Versions.{rows_at, turns_among}
 use Rattle.undo.specs.Journals.{state_at}
 
 -- a present record is a version that has not been replaced
@@ -34,47 +34,17 @@ versions present entries = map current present ++ flat_map replaced_by entries
 abbrev pub tells : List Entry → RecordId → ℕ → Bool
 tells entries id moment = any (λ entry. is_id id entry.id && moment == entry.commit) entries
 
--- the replaced moment of a version, if there is one
-abbrev pub replacements : Option ℕ → List ℕ
-replacements None = []
-replacements (Some moment) = moment ∷ []
-
--- the moments at which a version was made, where that counts, and replaced
-abbrev pub turns_by : (Version → Bool) → Version → List ℕ
-turns_by counts version = cond (counts version) (version.made ∷ []) [] ++ replacements version.replaced
-
 -- a made moment counts where a kept entry tells it
 abbrev pub is_told : List Entry → Version → Bool
 is_told entries version = tells entries version.row.id version.made
 
 -- the turns of a query: the made and replaced moments of the versions that match it, as far as they count
-abbrev pub turns_among : (Version → Bool) → Query → List Version → List ℕ
-turns_among counts query told = flat_map (turns_by counts) (filter (λ version. matches query version.row) told)
-
 abbrev pub turns_of : Query → List Present → List Entry → List ℕ
 turns_of query present entries = turns_among (is_told entries) query (versions present entries)
 
--- before the moment of replacement, if there is one
-abbrev pub lasts : Option ℕ → ℕ → Bool
-lasts None moment = true
-lasts (Some replaced) moment = nat_lt moment replaced
-
--- a version is visible from the moment it was made until before the one it was replaced
-abbrev pub visible : ℕ → Version → Bool
-visible moment version = nat_le version.made moment && lasts version.replaced moment
-
--- the records of the versions visible at a moment
-abbrev pub rows_at : ℕ → List Version → List Row
-rows_at moment told = map (λ version. version.row) (filter (visible moment) told)
-
--- replaced, if at all, by the latest moment
-abbrev pub replaced_upto : ℕ → Option ℕ → Bool
-replaced_upto latest None = true
-replaced_upto latest (Some replaced) = nat_le replaced latest
-
--- made, and perhaps replaced, by the latest moment
-abbrev pub dated : ℕ → Version → Bool
-dated latest version = nat_le version.made latest && replaced_upto latest version.replaced
+-- whether a version was made above the floor
+abbrev pub is_above : ℕ → Version → Bool
+is_above floor version = nat_lt floor version.made
 
 -- whether a kept entry tells the made moment of a version exactly if it is above the floor
 abbrev pub rightly : ℕ → List Entry → Version → Bool

@@ -1,35 +1,20 @@
 // The present records and the journal of a store.
-ghost use Rattle.std.specs.Prelude.{◌≡◌, ◌+◌, ◌-◌, ◌<◌, ◌≤◌, min, [], ◌∷◌, ◌++◌, length, drop, vec_len, vec_capacity, filter, nat_lt};
-ghost use Rattle.std.specs.List.{slice_get};
+ghost use Rattle.std.specs.Prelude.{◌≡◌, ◌+◌, ◌-◌, ◌<◌, ◌≤◌, min, ◌∷◌, [], ◌++◌, length, drop, vec_len, vec_capacity, filter, nat_lt};
 ghost use Rattle.line.specs.Rings.{waiting};
-ghost use Rattle.undo.specs.Ledgers.{Roomy, Grown};
 ghost use Rattle.undo.specs.Journals.{held_of, other_than, present_after, leaves, entries_by, present_after_all, entries_after_all, later};
 
 use crate::entry::{Entry, Held, Present};
-use database::retain::{Test, retain};
 use line::Line;
 use terms::{Change, Moment, RecordId, Row};
 
-// The entries wait in the journal, oldest first.
+// The entries wait in the journal, oldest first. There is room for as many present records, reserved at the making.
 #[derive(Drop)]
 pub struct Ledger<'a> {
     pub(crate) present: Vec<Present>,
     pub(crate) journal: &'a mut [Entry],
     pub(crate) line: Line,
-}
-
-// Every present record but one.
-#[derive(Drop)]
-struct Other {
-    id: RecordId,
-}
-
-impl Test<Present> for Other {
-    ghost passed = { λ s p. other_than s.id p };
-
-    fn passes(&self, x: Present) -> bool {
-        !self.id.is(x.row.id)
-    }
+    ghost room: { line.size ≤ vec_capacity present },
+    ghost fits: { line.size ≤ length journal.now },
 }
 
 // What is held of a record, if it is present.
@@ -37,7 +22,7 @@ fn held_of(present: &[Present], id: RecordId) -> Option<Held>
     ensures { result ≡ held_of id present.now }
 {
     for p in present {
-        if id.is(p.row.id) {
+        if id == p.row.id {
             return Some(Held {
                 value: p.row.value,
                 made: p.made,
@@ -57,11 +42,11 @@ fn leaves_entry(change: Change, former: Option<Held>) -> bool
     }
 }
 
-// Whether an entry is needed to undo the commits above the lowest held moment.
-fn is_needed(entry: Entry, lowest: Moment) -> bool
-    ensures { result ≡ nat_lt lowest entry.commit }
+// How many entries are needed to undo the commits above the lowest held moment.
+fn count_needed(entries: &[Entry], lowest: Moment) -> usize
+    ensures { result ≡ length (later lowest entries.now) }
 {
-    entry.commit > lowest
+    entries.iter().filter(|entry| entry.commit > lowest).count()
 }
 
 // Takes a record out of the present ones.
@@ -70,7 +55,7 @@ fn take_out(present: &mut Vec<Present>, id: RecordId)
     ensures capacity { vec_capacity present.new ≡ vec_capacity present.old }
     ensures len { vec_len present.new ≤ vec_len present.old }
 {
-    retain(present, &Other { id });
+    present.retain(|p| id != p.row.id);
 }
 
 // Takes the record out of the present ones, and puts it in again where the change is a set.
@@ -81,35 +66,26 @@ fn change_present(present: &mut Vec<Present>, moment: Moment, change: Change)
     ensures len { vec_len present.new ≤ vec_len present.old + 1 }
 {
     take_out(present, change.id());
-    match change {
-        Change::Set { id, value } => present.push_reserved(Present {
+    if let Change::Set { id, value } = change {
+        present.push_reserved(Present {
             row: Row { id, value },
             made: moment,
-        }),
-        Change::Delete { .. } => {}
+        });
     }
 }
 
 impl Ledger<'_> {
-    // The i-th entry, of which the oldest is the 0-th.
-    pub(crate) fn entry(&self, i: usize) -> Option<Entry>
-        ensures { result ≡ slice_get (waiting self.now.line self.now.journal.now) i }
-    {
-        self.line.get(self.journal, i)
-    }
+    ghost use Rattle.undo.specs.Ledgers.{Roomy, Grown};
 
     // Adds an entry behind the newest.
     fn note(&mut self, entry: Entry)
-        requires { (self.old.line.len < self.old.line.size) × (self.old.line.size ≤ length self.old.journal.now) }
+        requires { self.old.line.len < self.old.line.size }
         ensures entries { waiting self.new.line self.new.journal.now ≡ waiting self.old.line self.old.journal.now ++ entry ∷ [] }
         ensures present { self.new.present ≡ self.old.present }
         ensures len { self.new.line.len ≡ self.old.line.len + 1 }
         ensures size { self.new.line.size ≡ self.old.line.size }
-        ensures fits { self.new.line.size ≤ length self.new.journal.now }
     {
-        let mut line = self.line;
-        let _ = line.push(self.journal, entry);
-        self.line = line;
+        let _ = self.line.push(self.journal, entry);
     }
 
     // One change: its entry, where it leaves one, and what it makes of the present records.
@@ -129,7 +105,6 @@ impl Ledger<'_> {
         }
         change_present(&mut self.present, moment, change);
     }
-
     // All changes, one after the other.
     pub(crate) fn change_all(&mut self, moment: Moment, changes: &[Change])
         requires { Roomy (length changes.now) self.old }
@@ -146,15 +121,8 @@ impl Ledger<'_> {
     pub(crate) fn needed(&self, lowest: Moment) -> usize
         ensures { result ≡ length (later lowest (waiting self.now.line self.now.journal.now)) }
     {
-        let mut needed = 0;
-        for i in 0..self.line.len() {
-            if let Some(entry) = self.entry(i) {
-                if is_needed(entry, lowest) {
-                    needed += 1;
-                }
-            }
-        }
-        needed
+        let (older, newer) = self.line.as_slices(self.journal);
+        count_needed(older, lowest) + count_needed(newer, lowest)
     }
 
     // The smaller of the unused rows and of the places that are not needed.

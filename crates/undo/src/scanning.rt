@@ -1,87 +1,61 @@
 // The pass over present records and entries that answers a query.
-ghost use Rattle.std.specs.Prelude.{◌≡◌, ◌+◌, ◌≤◌, map, length, vec_len};
+ghost use Rattle.std.specs.Prelude.{◌≡◌, ◌+◌, ◌≤◌, map, vec_len};
+ghost use Rattle.std.specs.List.{flat_map};
 ghost use Rattle.line.specs.Rings.{waiting};
-ghost use Rattle.undo.specs.Versions.{visible, current, replaced_by, versions};
-ghost use Rattle.undo.specs.Scans.{found, scanned, scanned_all};
+ghost use Rattle.validity.specs.Scans.{scanned, scanned_all, found};
+ghost use Rattle.undo.specs.Versions.{is_above, current, replaced_by, versions};
 
-use crate::entry::{Entry, Present, Version};
+use crate::entry::{Entry, Present};
 use crate::ledger::Ledger;
-use database::queries::matches_row;
-use database::scan::Scan;
 use terms::{Moment, Query, Row};
-
-// Whether a version is visible at a moment.
-fn is_visible(version: Version, moment: Moment) -> bool
-    ensures { result ≡ visible moment version }
-{
-    let lasts = match version.replaced {
-        Some(replaced) => moment < replaced,
-        None => true,
-    };
-    version.made <= moment && lasts
-}
+use validity::{Scan, Version};
 
 // The scan with one more version. Its made moment counts where it is above the floor.
-fn scan_version(found: Scan, floor: Moment, moment: Moment, query: Query, version: Version) -> Scan
-    ensures { result ≡ scanned floor moment query version found }
+fn scan_version(scan: Scan, floor: Moment, version: Version) -> Scan
+    ensures { result ≡ scanned (is_above floor version) version scan }
 {
-    let mut scan = found;
-    if !matches_row(query, version.row) {
+    scan.with(version, floor < version.made)
+}
+
+// The scan with the version that an entry tells.
+fn scan_entry(scan: Scan, floor: Moment, entry: Entry) -> Scan
+    ensures { result ≡ scanned_all (is_above floor) (replaced_by entry) scan }
+{
+    let Some(held) = entry.former else {
         return scan;
-    }
-    if floor < version.made {
-        scan = scan.turned(moment, version.made);
-    }
-    if let Some(replaced) = version.replaced {
-        scan = scan.turned(moment, replaced);
-    }
-    if is_visible(version, moment) {
-        scan = scan.read(query, version.row);
+    };
+    scan_version(
+        scan,
+        floor,
+        Version {
+            row: Row {
+                id: entry.id,
+                value: held.value,
+            },
+            made: held.made,
+            replaced: Some(entry.commit),
+        },
+    )
+}
+
+// The scan with the versions that present records are.
+fn scan_present(scan: Scan, floor: Moment, present: &[Present]) -> Scan
+    ensures { result ≡ scanned_all (is_above floor) (map current present.now) scan }
+{
+    let mut scan = scan;
+    for p in present {
+        scan = scan_version(scan, floor, Version::from(*p));
     }
     scan
 }
 
-// The scan with the version that an entry tells.
-fn scan_entry(found: Scan, floor: Moment, moment: Moment, query: Query, entry: Entry) -> Scan
-    ensures { result ≡ scanned_all floor moment query (replaced_by entry) found }
+// The scan with the versions that entries tell.
+fn scan_entries(scan: Scan, floor: Moment, entries: &[Entry]) -> Scan
+    ensures { result ≡ scanned_all (is_above floor) (flat_map replaced_by entries.now) scan }
 {
-    match entry.former {
-        Some(held) => scan_version(
-            found,
-            floor,
-            moment,
-            query,
-            Version {
-                row: Row {
-                    id: entry.id,
-                    value: held.value,
-                },
-                made: held.made,
-                replaced: Some(entry.commit),
-            },
-        ),
-        None => found,
-    }
-}
-
-// What the present records tell of a query at a moment.
-fn scan_present(present: &[Present], floor: Moment, moment: Moment, query: Query) -> Scan
-    requires { length present.now ≤ 4294967295 }
-    ensures { result ≡ found floor moment query (map current present.now) }
-{
-    let mut scan = Scan::new();
-    for p in present {
-        scan = scan_version(
-            scan,
-            floor,
-            moment,
-            query,
-            Version {
-                row: p.row,
-                made: p.made,
-                replaced: None,
-            },
-        );
+    let mut scan = scan;
+    for entry in entries {
+        scan = scan_entry(scan, floor, *entry);
     }
     scan
 }
@@ -90,14 +64,10 @@ impl Ledger<'_> {
     // What present records and entries tell of a query at a moment: one pass over each.
     pub(crate) fn scan(&self, floor: Moment, moment: Moment, query: Query) -> Scan
         requires { vec_len self.now.present + self.now.line.len ≤ 4294967295 }
-        ensures { result ≡ found floor moment query (versions self.now.present.items (waiting self.now.line self.now.journal.now)) }
+        ensures { result ≡ found (is_above floor) moment query (versions self.now.present.items (waiting self.now.line self.now.journal.now)) }
     {
-        let mut scan = scan_present(&self.present, floor, moment, query);
-        for i in 0..self.line.len() {
-            if let Some(entry) = self.entry(i) {
-                scan = scan_entry(scan, floor, moment, query, entry);
-            }
-        }
-        scan
+        let (older, newer) = self.line.as_slices(self.journal);
+        let scan = scan_present(Scan::new(moment, query), floor, &self.present);
+        scan_entries(scan_entries(scan, floor, older), floor, newer)
     }
 }

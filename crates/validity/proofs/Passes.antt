@@ -1,7 +1,7 @@
 -- A pass over versions finds what the definitions say.
-use Rattle.std.proofs.Common.{◌≡◌, ℕ, ◌+◌, ◌<◌, ◌≤◌, Bool, true, false, cond, ◌⊎◌, List, [], ◌∷◌, ◌++◌, map, length, get_or, take, Some, None, filter, Option, sym, refl, ap, ◌∙◌, ⊎_elim, arith}
+use Rattle.std.proofs.Common.{◌≡◌, ℕ, ◌+◌, ◌<◌, ◌≤◌, Bool, true, false, cond, List, [], ◌∷◌, ◌++◌, map, length, Some, None, filter, Option, sym, refl, ap, ◌∙◌, ⊎_elim, arith}
 use Rattle.std.proofs.lemmas.Bool.{cases_Bool, cond-true, cond-false}
-use Rattle.std.proofs.lemmas.List.{append_assoc, append-nil, map-append, length-map, length-take, take_more}
+use Rattle.std.proofs.lemmas.List.{append_assoc, append-nil, map-append, length-map, length-append}
 use Rattle.std.proofs.lemmas.List.Sums.{length-filter, count_by-le-length}
 use Rattle.std.specs.List.{flat_map}
 use Rattle.terms.specs.declared.record.Row.{Row}
@@ -10,7 +10,7 @@ use Rattle.database.specs.Rows.{matches}
 use Rattle.validity.specs.declared.scan.Scan.{Scan}
 use Rattle.validity.specs.declared.version.Version.{Version}
 use Rattle.validity.specs.Versions.{replacements, turns_by, turns_among, visible, rows_at}
-use Rattle.validity.specs.Scans.{summary, found, turned_if, turned_again, read_if, scanned}
+use Rattle.validity.specs.Scans.{summary, found, turned_if, turned_again, read_if, scanned, scanned_all}
 use Rattle.validity.proofs.Turns.{kept_push, turn_push, read_push, pass_push}
 
 pub joined_push : {X Y : Type 0} (f : X → List Y) (xs : List X) (x : X) → flat_map f (xs ++ x ∷ []) ≡ flat_map f xs ++ f x
@@ -82,8 +82,18 @@ found_push p m q vs v few =
     ∙ ap (summary m q (rows_at m (vs ++ v ∷ []))) (sym (turns ∙ cond-false (matches q v.row) _ _ e)))
     (cases_Bool (matches q v.row))
 
--- one step of a walk over versions
-pub found_more : (p : Version → Bool) (m : ℕ) (q : Query) (vs : List Version) (i : ℕ) (d : Version) (scan next : Scan) → i < length vs → length vs ≤ 4294967295
-    → scan ≡ found p m q (take i vs) → next ≡ scanned (p (get_or vs i d)) (get_or vs i d) scan → next ≡ found p m q (take (i + 1) vs)
-found_more p m q vs i d scan next h few e is =
-    is ∙ ap (scanned (p (get_or vs i d)) (get_or vs i d)) e ∙ found_push p m q (take i vs) (get_or vs i d) (omega (arith, length-take i vs)) ∙ ap (found p m q) (sym (take_more vs i d h))
+-- a pass over some versions and then over others
+pub scanned_append : (p : Version → Bool) (us vs : List Version) (scan : Scan) → scanned_all p (us ++ vs) scan ≡ scanned_all p vs (scanned_all p us scan)
+scanned_append p [] vs scan = refl
+scanned_append p (u ∷ us) vs scan = scanned_append p us vs (scanned (p u) u scan)
+
+further : (p : Version → Bool) (m : ℕ) (q : Query) (us vs : List Version) → length us + length vs ≤ 4294967295 → scanned_all p vs (found p m q us) ≡ found p m q (us ++ vs)
+further p m q us [] few = ap (found p m q) (sym (append-nil us))
+further p m q us (v ∷ vs) few =
+    ap (scanned_all p vs) (found_push p m q us v (omega arith))
+    ∙ further p m q (us ++ v ∷ []) vs (omega (arith, length-append us (v ∷ [])))
+    ∙ ap (found p m q) (append_assoc us (v ∷ []) vs)
+
+-- a whole pass
+pub pass_finds : (p : Version → Bool) (m : ℕ) (q : Query) (vs : List Version) → length vs ≤ 4294967295 → scanned_all p vs (summary m q [] []) ≡ found p m q vs
+pass_finds p m q vs few = further p m q [] vs (omega arith)

@@ -1,5 +1,5 @@
 -- One pass over versions: what it has found after some of them, and what one more adds.
-use Rattle.std.specs.Prelude.{ℕ, ◌+◌, min, max, Bool, cond, List, Some, None, Option, nat_le}
+use Rattle.std.specs.Prelude.{ℕ, ◌+◌, min, max, Bool, cond, List, [], ◌∷◌, Some, None, Option, nat_le}
 use Rattle.terms.specs.declared.record.Row.{Row}
 use Rattle.terms.specs.declared.record.Query.{Query}
 use Rattle.terms.specs.declared.record.Query.TheVariants.{Get, Tally}
@@ -59,6 +59,11 @@ scanned told version scan =
     cond (matches scan.query version.row)
     (read_if (visible scan.moment version) version.row (turned_again version.replaced (turned_if told version.made scan)))
     scan
+
+-- some more versions, of which some have their made moment told
+abbrev pub scanned_all : (Version → Bool) → List Version → Scan → Scan
+scanned_all counts [] scan = scan
+scanned_all counts (version ∷ versions) scan = scanned_all counts versions (scanned (counts version) version scan)
 
 -- the answer that a pass has found
 abbrev pub scan_answer : ℕ → Scan → Answer

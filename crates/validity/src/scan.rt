@@ -1,6 +1,6 @@
 // One pass over versions, which answers a query at a moment.
-ghost use Rattle.std.specs.Prelude.{◌≡◌, []};
-ghost use Rattle.validity.specs.Scans.{summary, turned_by, read_more, read_by, scanned, scan_answer};
+ghost use Rattle.std.specs.Prelude.{◌≡◌, true, []};
+ghost use Rattle.validity.specs.Scans.{summary, turned_by, read_more, read_by, scanned, scanned_all, scan_answer};
 
 use crate::version::Version;
 use database::Answer;
@@ -87,6 +87,17 @@ impl Scan {
         }
         if version.is_visible(self.moment) {
             scan = scan.read(version.row);
+        }
+        scan
+    }
+
+    // The scan with some more versions, whose made moments all count.
+    pub fn with_all(self, versions: &[Version]) -> Scan
+        ensures { result ≡ scanned_all (λ _. true) versions.now self }
+    {
+        let mut scan = self;
+        for version in versions {
+            scan = scan.with(*version, true);
         }
         scan
     }

@@ -1,5 +1,5 @@
 -- The answer of the version store is one that a database gives.
-use Rattle.std.specs.Prelude.{◌≡◌, ℕ, ◌≤◌, true, ◌⊎◌, nat_le, refl}
+use Rattle.std.specs.Prelude.{◌≡◌, ℕ, ◌≤◌, true, nat_le, refl}
 use Rattle.std.proofs.Common.{sym, ap, subst, ⊎_elim, arith}
 use Rattle.std.proofs.lemmas.Bool.{both_ways, leb-true, or_cases, eqb-true}
 use Rattle.terms.specs.declared.record.Query.{Query}

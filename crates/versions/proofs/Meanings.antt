@@ -1,7 +1,7 @@
 -- What each call makes of the store is what a database means by it.
-use Rattle.std.specs.Prelude.{◌≡◌, ℕ, ◌+◌, ◌≤◌, min, true, None, List, [], ◌∷◌, length, filter, nat_le, refl}
+use Rattle.std.specs.Prelude.{◌≡◌, ℕ, ◌+◌, ◌≤◌, min, true, None, List, length, filter, refl}
 use Rattle.std.proofs.Common.{sym, ap, ◌∙◌, subst, arith}
-use Rattle.std.proofs.lemmas.Bool.{leb-true, le-leb, and_from, and_parts, or_right, or_left, eq-eqb}
+use Rattle.std.proofs.lemmas.Bool.{or_right, or_left, eq-eqb}
 use Rattle.std.proofs.lemmas.List.Sums.{length-filter, count_by-le-length}
 use Rattle.terms.specs.declared.record.Change.{Change}
 use Rattle.database.specs.Lists.{every}

@@ -1,5 +1,5 @@
 -- The versions that a store keeps: which are needed, for how long a reading of them is right, and what changes make of them.
-use Rattle.std.specs.Prelude.{ℕ, ◌+◌, Bool, true, false, cond, ◌&&◌, List, [], ◌∷◌, ◌++◌, map, Some, None, Option}
+use Rattle.std.specs.Prelude.{ℕ, Bool, true, false, cond, ◌&&◌, List, [], ◌∷◌, ◌++◌, map, Some, None, Option}
 use Rattle.terms.specs.declared.record.RecordId.{RecordId}
 use Rattle.terms.specs.declared.record.Query.{Query}
 use Rattle.terms.specs.declared.record.Change.{Change}

@@ -93,9 +93,5 @@ pub(crate) fn scan_all(versions: &[Version], moment: Moment, query: Query) -> Sc
     requires { length versions.now < 4294967295 }
     ensures { result ≡ found counted moment query versions.now }
 {
-    let mut scan = Scan::new(moment, query);
-    for version in versions {
-        scan = scan.with(*version, true);
-    }
-    scan
+    Scan::new(moment, query).with_all(versions)
 }

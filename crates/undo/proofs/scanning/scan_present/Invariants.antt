@@ -1,7 +1,8 @@
-use Rattle.std.proofs.Common.{◌≡◌, map, take}
-use Rattle.undo.specs.Versions.{current}
-use Rattle.undo.specs.Scans.{found}
+use Rattle.std.proofs.Common.{◌≡◌, map, drop}
+use Rattle.validity.specs.Scans.{scanned_all}
+use Rattle.undo.specs.Versions.{is_above, current}
 use Rattle.undo.proofs.scanning.scan_present.Given as goal
 
 abbrev pub invariant-loop-p : goal.invariant-loop-p
-invariant-loop-p l = l.scan ≡ found l.floor l.moment l.query (map current (take l.p-index l.present))
+invariant-loop-p l =
+    scanned_all (is_above l.floor) (map current (drop l.p-index l.present)) l.scan ≡ scanned_all (is_above l.floor) (map current l.present) l.initial.scan

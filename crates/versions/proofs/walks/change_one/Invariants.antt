@@ -1,5 +1,4 @@
-use Rattle.std.proofs.Common.{◌≡◌, ◌++◌, map, take, drop, vec_items}
-use Rattle.terms.specs.Records.{change_id}
+use Rattle.std.proofs.Common.{◌≡◌, ◌++◌, map, take, drop}
 use Rattle.versions.specs.Versions.{retired}
 use Rattle.versions.proofs.walks.change_one.Given as goal
 

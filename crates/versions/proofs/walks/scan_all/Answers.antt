@@ -1,8 +1,10 @@
-use Rattle.std.proofs.Common.{arith}
-use Rattle.validity.proofs.Passes.{found_more}
+use Rattle.std.proofs.Common.{ap, ◌∙◌, arith}
+use Rattle.validity.specs.Scans.{scanned_all}
+use Rattle.validity.proofs.Passes.{pass_finds}
 use Rattle.versions.specs.Versions.{counted}
 use Rattle.versions.proofs.walks.scan_all.Goals as goal
 
-pub loop-version-preserved : goal.loop-version-preserved
-loop-version-preserved c =
-    found_more counted c.args.moment c.args.query c.args.versions.now c.loop-version.version-index _ _ _ c.loop-version-test.true (omega arith) c.loop-version.invariant c.with-scan.ensures
+pub returns : goal.returns
+returns c =
+    let versions = c.args.versions.now in
+    c.with_all.ensures ∙ ap (scanned_all counted versions) c.new.ensures ∙ pass_finds counted c.args.moment c.args.query versions (omega arith)

@@ -1,9 +1,11 @@
-use Rattle.std.proofs.Common.{◌+◌, ◌≤◌, length, vec_items, vec_len, vec_capacity, sym, ap, arith, rules}
+use Rattle.std.proofs.Common.{length, vec_items, vec_len, vec_capacity, ap, ◌∙◌, arith, rules}
 use Rattle.database.proofs.Changes.{no_refusal}
+use Rattle.line.specs.Rings.{waiting}
 use Rattle.line.proofs.Rings.{length_waiting_fits}
+use Rattle.undo.specs.Journals.{present_after_all, entries_after_all}
 use Rattle.undo.specs.Soundness.{good}
 use Rattle.undo.specs.Stores.{store_of, store_from, meaning}
-use Rattle.undo.proofs.Meanings.{needed_part, writes_left, writes_lasting, writes_mean}
+use Rattle.undo.proofs.Meanings.{needed_part, wrote, wrote_lasting, wrote_means}
 use Rattle.undo.proofs.calls.UndoStoreDatabase.write.Goals as goal
 
 pub change_all-requires : goal.change_all-requires
@@ -11,34 +13,31 @@ change_all-requires c =
     let s = c.args.self.now in
     let l = c.keep.new.self in
     let part = needed_part s c.lowest-lowest.result c.needed-needed.result _ c.lowest-lowest.ensures c.needed-needed.ensures c.keep.ensures.entries in
-    let room = no_refusal s.latest (meaning (store_of s)).free c.args.changes.now (sym c.in_default.ensures) in
-    let journal = ap length c.keep.ensures.journal in
-    let fits : l.line.size ≤ length l.journal.now = omega (arith, c.keep.ensures.size, s.fits) in
-    let here = length_waiting_fits l.line l.journal.now fits in
+    let room = no_refusal s.snapshots.latest (meaning (store_of s)).free c.args.changes.now c.in_ok-check.ensures in
+    let here = length_waiting_fits l.line l.journal.now l.fits in
     record {
-      rows = omega (arith, ap vec_len c.keep.ensures.present, ap vec_capacity c.keep.ensures.present, s.room, s.ledger.present.ok.0, room.1);
+      rows = omega (arith, ap vec_len c.keep.ensures.present, ap vec_capacity c.keep.ensures.present, s.ledger.room, s.ledger.present.ok.0, room.1);
       places = omega (arith, ap length part, room.1, c.keep.ensures.size);
-      fits = fits;
     }
 
 pub invariant_of-self : goal.invariant_of-self
 invariant_of-self c =
     let s = c.args.self.now in
-    let l = c.change_all.new.self in
     let cs = c.args.changes.now in
-    let kept = c.keep.ensures.present in
-    let grown = c.change_all.ensures.grown in
+    let l = c.change_all.new.self in
+    let moved = c.advance-moment in
+    let kept = waiting c.keep.new.self.line c.keep.new.self.journal.now in
     let part = needed_part s c.lowest-lowest.result c.needed-needed.result _ c.lowest-lowest.ensures c.needed-needed.ensures c.keep.ensures.entries in
-    let room = no_refusal s.latest (meaning (store_of s)).free cs (sym c.in_default.ensures) in
-    let to = writes_left s cs c.lowest-lowest.result c.keep.new.self l c.lowest-lowest.ensures part kept c.keep.ensures.size grown c.change_all.ensures.present c.change_all.ensures.entries in
-    let w = writes_lasting (store_of s) cs (store_from (s.latest + 1) c.lowest-lowest.result (vec_items s.pins.moments) l) to (good s) in
+    let z = store_from moved.new.self.latest c.lowest-lowest.result (vec_items moved.new.self.pins.moments) l in
+    let is = wrote (store_of s) z cs _ _ c.in_ok-check.ensures (c.change_all.ensures.grown.size ∙ c.keep.ensures.size) moved.ensures.latest moved.ensures.answer c.lowest-lowest.ensures (ap (λ pins. vec_items pins.moments) moved.ensures.pins) part
+    (c.change_all.ensures.present ∙ ap (λ p. present_after_all moved.result cs (vec_items p)) c.keep.ensures.present)
+    (c.change_all.ensures.entries ∙ ap (λ p. entries_after_all moved.result cs (vec_items p) kept) c.keep.ensures.present) in
+    let w = wrote_lasting (store_of s) z cs is (good s) in
+    let grown = c.change_all.ensures.grown in
+    let room = no_refusal s.snapshots.latest (meaning (store_of s)).free cs c.in_ok-check.ensures in
     record {
       size = omega (arith, grown.size, c.keep.ensures.size, s.size);
-      room = omega (arith, grown.capacity, grown.size, ap vec_capacity kept, c.keep.ensures.size, s.room);
-      fits = grown.fits;
-      rows = omega (arith, grown.rows, grown.size, ap vec_len kept, c.keep.ensures.size, s.ledger.present.ok.0, room.1);
-      moment = omega (arith, room.0);
-      past = w.past;
+      rows = omega (arith, grown.rows, grown.size, ap vec_len c.keep.ensures.present, c.keep.ensures.size, s.ledger.present.ok.0, room.1);
       kept = w.kept;
       single = w.single;
       ascends = w.ascends;
@@ -51,12 +50,13 @@ invariant_of-self c =
 pub returns : goal.returns
 returns c =
     let s = c.args.self.now in
-    let l = c.change_all.new.self in
     let cs = c.args.changes.now in
+    let l = c.change_all.new.self in
+    let moved = c.advance-moment in
+    let kept = waiting c.keep.new.self.line c.keep.new.self.journal.now in
     let part = needed_part s c.lowest-lowest.result c.needed-needed.result _ c.lowest-lowest.ensures c.needed-needed.ensures c.keep.ensures.entries in
-    let to = writes_left s cs c.lowest-lowest.result c.keep.new.self l c.lowest-lowest.ensures part c.keep.ensures.present c.keep.ensures.size c.change_all.ensures.grown c.change_all.ensures.present c.change_all.ensures.entries in
-    record {
-      means = (sym c.in_default.ensures, writes_mean (store_of s) cs (store_from (s.latest + 1) c.lowest-lowest.result (vec_items s.pins.moments) l) to (good s));
-      keeps = λ _. to;
-      same = λ e. search rules;
-    }
+    let z = store_from moved.new.self.latest c.lowest-lowest.result (vec_items moved.new.self.pins.moments) l in
+    let is = wrote (store_of s) z cs _ _ c.in_ok-check.ensures (c.change_all.ensures.grown.size ∙ c.keep.ensures.size) moved.ensures.latest moved.ensures.answer c.lowest-lowest.ensures (ap (λ pins. vec_items pins.moments) moved.ensures.pins) part
+    (c.change_all.ensures.present ∙ ap (λ p. present_after_all moved.result cs (vec_items p)) c.keep.ensures.present)
+    (c.change_all.ensures.entries ∙ ap (λ p. entries_after_all moved.result cs (vec_items p) kept) c.keep.ensures.present) in
+    record { means = (c.in_ok-check.ensures, wrote_means (store_of s) z cs _ moved.ensures.answer is (good s)); keeps = λ _. is; same = λ e. search rules }

@@ -1,4 +1,4 @@
-use Rattle.std.proofs.Common.{◌≡◌, true, sym, ap, ◌∙◌, subst, rules}
+use Rattle.std.proofs.Common.{◌≡◌, true, sym, subst, rules}
 use Rattle.database.specs.Databases.{Answers, held}
 use Rattle.database.specs.declared.Answer.{Answer}
 use Rattle.versions.specs.Stores.{store_of, meaning, answer_at}
