@@ -135,6 +135,6 @@ every_either p m r xs pins yes_way no_way h is =
 pub every_without : (p : ℕ → Bool) (m : ℕ) (xs pins : List ℕ) → pins ≡ without m xs → every p xs ≡ true → every p pins ≡ true
 every_without p m xs pins e h = ap (every p) e ∙ every_kept p (λ x. not (eqb x m)) xs h
 
--- what is at most a moment is at most the one after it
-pub past_next : (m : ℕ) (pins : List ℕ) → every (λ pin. leb pin m) pins ≡ true → every (λ pin. leb pin (m + 1)) pins ≡ true
-past_next m pins h = every_weaker (λ pin. leb pin m) (λ pin. leb pin (m + 1)) pins (λ x is. grind (arith, nat_tests)) h
+-- what is at most a moment is at most every later one
+pub past_later : (m n : ℕ) (pins : List ℕ) → m ≤ n → every (λ pin. leb pin m) pins ≡ true → every (λ pin. leb pin n) pins ≡ true
+past_later m n pins h = every_weaker (λ pin. leb pin m) (λ pin. leb pin n) pins (λ x is. grind (arith, nat_tests))

@@ -1,6 +1,7 @@
 // The undo store as a database.
 ghost use Rattle.std.specs.Prelude.{◌≡◌, true, false, length, is_ok, IfOk, MatchResult};
-ghost use Rattle.database.specs.Databases.{PinsLatest, Unpins, UnpinsAll, Asks, Writes};
+ghost use Rattle.database.specs.Databases.{PinsLatest, Unpins, UnpinsAll, Asks, Writes, Written};
+ghost use Rattle.database.specs.Writes.{refusal};
 ghost use Rattle.undo.specs.Soundness;
 ghost use Rattle.undo.specs.Stores.{in_range, Refused, store_of, meaning, empty_at, pinned, unpinned, unpinned_all, written, validity};
 
@@ -38,6 +39,21 @@ impl<'a> UndoStore<'a> {
                 line,
             },
         })
+    }
+
+    // Makes changes that are not refused at the moment after the latest, and answers it.
+    fn commit(&mut self, changes: &[Change]) -> Moment
+        requires { refusal (meaning (store_of self.old)).latest (meaning (store_of self.old)).free changes.now ≡ None }
+        ensures means { Written (meaning (store_of self.old)) changes.now result (meaning (store_of self.new)) }
+        ensures keeps { store_of self.new ≡ written changes.now (store_of self.old) }
+    {
+        let lowest = self.snapshots.lowest();
+        let needed = self.ledger.needed(lowest);
+        self.ledger.keep(needed);
+        let moment = self.snapshots.advance();
+        self.ledger.change_all(moment, changes);
+        self.floor = lowest;
+        moment
     }
 }
 
@@ -93,12 +109,6 @@ impl Database for UndoStore<'_> {
         ensures same { is_ok result ≡ false → store_of self.new ≡ store_of self.old }
     {
         self.check(changes)?;
-        let lowest = self.snapshots.lowest();
-        let needed = self.ledger.needed(lowest);
-        self.ledger.keep(needed);
-        let moment = self.snapshots.advance();
-        self.ledger.change_all(moment, changes);
-        self.floor = lowest;
-        Ok(moment)
+        Ok(self.commit(changes))
     }
 }

@@ -1,6 +1,7 @@
 // The version store as a database.
 ghost use Rattle.std.specs.Prelude.{◌≡◌, true, false, is_ok, IfOk, MatchResult};
-ghost use Rattle.database.specs.Databases.{PinsLatest, Unpins, UnpinsAll, Asks, Writes};
+ghost use Rattle.database.specs.Databases.{PinsLatest, Unpins, UnpinsAll, Asks, Writes, Written};
+ghost use Rattle.database.specs.Writes.{refusal};
 ghost use Rattle.versions.specs.Stores.{in_range, Refused, store_of, meaning, empty_at, pinned, unpinned, unpinned_all, written, answer_at};
 ghost use Rattle.versions.specs.Soundness;
 
@@ -26,6 +27,18 @@ impl VersionStore {
             snapshots,
             versions,
         })
+    }
+
+    // Makes changes that are not refused at the moment after the latest, and answers it.
+    fn commit(&mut self, changes: &[Change]) -> Moment
+        requires { refusal (meaning (store_of self.old)).latest (meaning (store_of self.old)).free changes.now ≡ None }
+        ensures means { Written (meaning (store_of self.old)) changes.now result (meaning (store_of self.new)) }
+        ensures keeps { store_of self.new ≡ written changes.now (store_of self.old) }
+    {
+        discard(&mut self.versions, &self.snapshots);
+        let moment = self.snapshots.advance();
+        change_all(&mut self.versions, moment, changes);
+        moment
     }
 }
 
@@ -81,9 +94,6 @@ impl Database for VersionStore {
         ensures same { is_ok result ≡ false → store_of self.new ≡ store_of self.old }
     {
         self.check(changes)?;
-        discard(&mut self.versions, &self.snapshots);
-        let moment = self.snapshots.advance();
-        change_all(&mut self.versions, moment, changes);
-        Ok(moment)
+        Ok(self.commit(changes))
     }
 }

@@ -16,6 +16,13 @@ fn lowest_of(latest: Moment, pins: &[Moment]) -> Moment
     pins.iter().fold(latest, |lowest, pin| lowest.min(*pin))
 }
 
+// The moment after this one; the highest stays.
+fn after(latest: Moment) -> Moment
+    ensures { result ≡ min (latest + 1) highest }
+{
+    latest.saturating_add(1).min(HIGHEST)
+}
+
 impl Snapshots {
     // The first moment, and none pinned.
     pub fn new(heap: Global, first: Moment) -> Result<Snapshots, Fault>
@@ -78,9 +85,7 @@ impl Snapshots {
         ensures answer { result ≡ self.new.latest }
         ensures pins { self.new.pins ≡ self.old.pins }
     {
-        if self.latest < HIGHEST {
-            self.latest += 1;
-        }
+        self.latest = after(self.latest);
         self.latest
     }
 }

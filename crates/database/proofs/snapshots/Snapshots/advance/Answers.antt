@@ -1,7 +1,8 @@
-use Rattle.std.proofs.Common.{vec_items}
-use Rattle.database.proofs.Sets.{past_next}
+use Rattle.std.proofs.Common.{vec_items, arith}
+use Rattle.database.proofs.Sets.{past_later}
 use Rattle.database.proofs.snapshots.Snapshots.advance.Goals as goal
 
 pub invariant_of-self-clause-past : goal.invariant_of-self-clause-past
 invariant_of-self-clause-past c =
-    past_next c.args.self.now.latest (vec_items c.args.self.now.pins.moments) c.args.self.now.past
+    let s = c.args.self.now in
+    past_later s.latest c.after-self.result (vec_items s.pins.moments) (omega (arith, s.moment, c.after-self.ensures)) s.past

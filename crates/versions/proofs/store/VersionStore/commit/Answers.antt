@@ -3,12 +3,12 @@ use Rattle.database.proofs.Changes.{no_refusal}
 use Rattle.versions.specs.Stores.{Store, store_of, meaning}
 use Rattle.versions.specs.Soundness.{good}
 use Rattle.versions.proofs.Meanings.{needed_few, wrote, wrote_means, wrote_dated, wrote_apart}
-use Rattle.versions.proofs.calls.VersionStoreDatabase.write.Goals as goal
+use Rattle.versions.proofs.store.VersionStore.commit.Goals as goal
 
 pub change_all-requires : goal.change_all-requires
 change_all-requires c =
     let s = c.args.self.now in
-    let room = no_refusal s.snapshots.latest (meaning (store_of s)).free c.args.changes.now c.in_ok-check.ensures in
+    let room = no_refusal s.snapshots.latest (meaning (store_of s)).free c.args.changes.now c.requires in
     let few = needed_few (store_of s) (good s) in
     let long = ap length c.discard.ensures.items in
     omega (arith, c.discard.new.versions.ok.0, long, room.1, c.discard.ensures.capacity, s.room)
@@ -16,7 +16,7 @@ change_all-requires c =
 pub invariant_of-self-clause-fits : goal.invariant_of-self-clause-fits
 invariant_of-self-clause-fits c =
     let s = c.args.self.now in
-    let room = no_refusal s.snapshots.latest (meaning (store_of s)).free c.args.changes.now c.in_ok-check.ensures in
+    let room = no_refusal s.snapshots.latest (meaning (store_of s)).free c.args.changes.now c.requires in
     let few = needed_few (store_of s) (good s) in
     let long = ap length c.discard.ensures.items in
     omega (arith, c.change_all.ensures.len, c.discard.new.versions.ok.0, long, room.1)
@@ -31,7 +31,7 @@ invariant_of-self-clause-dated c =
       pins = vec_items c.advance-moment.new.self.pins.moments;
       kept = vec_items c.change_all.new.versions;
     } in
-    let is = wrote (store_of s) z cs _ _ c.in_ok-check.ensures refl c.advance-moment.ensures.latest c.advance-moment.ensures.answer (ap (λ pins. vec_items pins.moments) c.advance-moment.ensures.pins) c.discard.ensures.items c.change_all.ensures.items in
+    let is = wrote (store_of s) z cs _ _ c.requires refl c.advance-moment.ensures.latest c.advance-moment.ensures.answer (ap (λ pins. vec_items pins.moments) c.advance-moment.ensures.pins) c.discard.ensures.items c.change_all.ensures.items in
     wrote_dated (store_of s) z cs is (good s)
 
 pub invariant_of-self-clause-apart : goal.invariant_of-self-clause-apart
@@ -44,7 +44,7 @@ invariant_of-self-clause-apart c =
       pins = vec_items c.advance-moment.new.self.pins.moments;
       kept = vec_items c.change_all.new.versions;
     } in
-    let is = wrote (store_of s) z cs _ _ c.in_ok-check.ensures refl c.advance-moment.ensures.latest c.advance-moment.ensures.answer (ap (λ pins. vec_items pins.moments) c.advance-moment.ensures.pins) c.discard.ensures.items c.change_all.ensures.items in
+    let is = wrote (store_of s) z cs _ _ c.requires refl c.advance-moment.ensures.latest c.advance-moment.ensures.answer (ap (λ pins. vec_items pins.moments) c.advance-moment.ensures.pins) c.discard.ensures.items c.change_all.ensures.items in
     wrote_apart (store_of s) z cs is (good s)
 
 pub returns : goal.returns
@@ -57,5 +57,5 @@ returns c =
       pins = vec_items c.advance-moment.new.self.pins.moments;
       kept = vec_items c.change_all.new.versions;
     } in
-    let is = wrote (store_of s) z cs _ _ c.in_ok-check.ensures refl c.advance-moment.ensures.latest c.advance-moment.ensures.answer (ap (λ pins. vec_items pins.moments) c.advance-moment.ensures.pins) c.discard.ensures.items c.change_all.ensures.items in
-    record { means = (c.in_ok-check.ensures, wrote_means (store_of s) z cs _ c.advance-moment.ensures.answer is (good s)); keeps = λ _. is; same = λ e. search rules }
+    let is = wrote (store_of s) z cs _ _ c.requires refl c.advance-moment.ensures.latest c.advance-moment.ensures.answer (ap (λ pins. vec_items pins.moments) c.advance-moment.ensures.pins) c.discard.ensures.items c.change_all.ensures.items in
+    record { means = wrote_means (store_of s) z cs _ c.advance-moment.ensures.answer is (good s); keeps = is }
