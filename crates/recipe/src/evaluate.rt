@@ -1,31 +1,19 @@
 // The value of a sheet, worked out over a database without a cache.
 ghost use Rattle.std.specs.Prelude.{◌≡◌};
-ghost use Rattle.recipe.specs.Recipes.{start, table_of};
+ghost use Rattle.recipe.specs.Recipes.{table_of};
 ghost use Rattle.terms.specs.Records.{known_table};
 ghost use Rattle.recipe.specs.Evaluations.{ReadsAt, last_answer, WorksOut, Evaluates};
 
 use crate::{Ask, Point, Recipe};
 use database::Database;
+use terms::record::is_table;
 use terms::{Fault, Moment, Query, Reading};
-
-// The point at which a sheet starts.
-pub fn start_of(sheet: u8, argument: u32) -> Point
-    ensures { result ≡ start sheet argument }
-{
-    Point {
-        sheet,
-        argument,
-        stage: 0,
-        carry: 0,
-        last: None,
-    }
-}
 
 // Whether a recipe may ask a query: its table is 0 to 7.
 fn is_read(query: Query) -> bool
     ensures { result ≡ known_table (table_of query) }
 {
-    query.tag().table < 8
+    is_table(query.tag().table)
 }
 
 // What a recipe's query reads at a moment.
@@ -65,8 +53,8 @@ pub fn evaluate<D: Database, R: Recipe>(
     if sheet >= recipe.sheets() {
         return Err(Fault::SheetUnknown { frames: 0 });
     }
-    let mut point = start_of(sheet, argument);
-    for answers in 0..31usize {
+    let mut point = Point::start(sheet, argument);
+    for _ in 0..31usize {
         let turn = recipe.next(point);
         let last = match turn.ask {
             Ask::Done { reading } => return Ok(reading),

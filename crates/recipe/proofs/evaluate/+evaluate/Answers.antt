@@ -10,7 +10,7 @@ returns-in-Done g t c =
     let db = g.D.Database.view c.args.db.now in
     let p = g.R.Recipe.rules c.args.recipe.now in
     let asked = sym (ap (λ t. t.ask) c.next-turn.ensures) ∙ c.in-Done.is in
-    let exact = stops db p c.args.moment c.args.sheet c.args.argument c.args.depth c.loop-answers.answers c.loop-answers.point (Ok c.in-Done.reading) c.loop-answers-test.true c.loop-answers.invariant (works.Works.done asked) in
+    let exact = stops db p c.args.moment c.args.sheet c.args.argument c.args.depth c.loop.counter c.loop.point (Ok c.in-Done.reading) c.loop-test.true c.loop.invariant (works.Works.done asked) in
     record { exact = exact; means = evaluates db p c.args.moment c.args.sheet c.args.argument c.args.depth (Ok c.in-Done.reading) exact }
 
 pub returns-in_err-last-in-Query : goal.returns-in_err-last-in-Query
@@ -21,7 +21,7 @@ returns-in_err-last-in-Query g t c =
     let asked = sym (ap (λ t. t.ask) c.next-turn.ensures) ∙ c.in-Query.is in
     let same : c.from_residual.result ≡ Err fault = handed_on _ fault c.from_residual.ensures.1 in
     let exact = subst (WorksOut db p c.args.moment c.args.sheet c.args.argument c.args.depth) (sym same)
-    (stops db p c.args.moment c.args.sheet c.args.argument c.args.depth c.loop-answers.answers c.loop-answers.point (Err fault) c.loop-answers-test.true c.loop-answers.invariant
+    (stops db p c.args.moment c.args.sheet c.args.argument c.args.depth c.loop.counter c.loop.point (Err fault) c.loop-test.true c.loop.invariant
     (works.Works.refused c.in-Query.query fault asked c.in_err-last-in-Query.ensures)) in
     record { exact = exact; means = evaluates db p c.args.moment c.args.sheet c.args.argument c.args.depth _ exact }
 
@@ -30,7 +30,7 @@ returns-then-sheet-sheets-2 g t c =
     let db = g.D.Database.view c.args.db.now in
     let p = g.R.Recipe.rules c.args.recipe.now in
     let asked = sym (ap (λ t. t.ask) c.next-turn.ensures) ∙ c.in-Call.is in
-    let exact = stops db p c.args.moment c.args.sheet c.args.argument c.args.depth c.loop-answers.answers c.loop-answers.point _ c.loop-answers-test.true c.loop-answers.invariant
+    let exact = stops db p c.args.moment c.args.sheet c.args.argument c.args.depth c.loop.counter c.loop.point _ c.loop-test.true c.loop.invariant
     (works.Works.unknown c.in-Call.sheet c.in-Call.argument asked (omega (arith, c.if-sheet-sheets-2.true, c.sheets-in-Call.ensures))) in
     record { exact = exact; means = evaluates db p c.args.moment c.args.sheet c.args.argument c.args.depth _ exact }
 
@@ -39,8 +39,8 @@ returns-then-depth-eq0 g t c =
     let db = g.D.Database.view c.args.db.now in
     let p = g.R.Recipe.rules c.args.recipe.now in
     let asked = sym (ap (λ t. t.ask) c.next-turn.ensures) ∙ c.in-Call.is in
-    let exact = stops db p c.args.moment c.args.sheet c.args.argument c.args.depth c.loop-answers.answers c.loop-answers.point _ c.loop-answers-test.true c.loop-answers.invariant
-    (deep_on db p c.args.moment c.args.depth (30 - c.loop-answers.answers) c.loop-answers.point c.in-Call.sheet c.in-Call.argument c.if-depth-eq0.true asked
+    let exact = stops db p c.args.moment c.args.sheet c.args.argument c.args.depth c.loop.counter c.loop.point _ c.loop-test.true c.loop.invariant
+    (deep_on db p c.args.moment c.args.depth (30 - c.loop.counter) c.loop.point c.in-Call.sheet c.in-Call.argument c.if-depth-eq0.true asked
     (omega (arith, c.if-sheet-sheets-2.false, c.sheets-in-Call.ensures))) in
     record { exact = exact; means = evaluates db p c.args.moment c.args.sheet c.args.argument c.args.depth _ exact }
 
@@ -52,24 +52,24 @@ returns-in_err-last-in-Call g t c =
     let asked = sym (ap (λ t. t.ask) c.next-turn.ensures) ∙ c.in-Call.is in
     let same : c.from_residual-in_err-last-in-Call.result ≡ Err fault = handed_on _ fault c.from_residual-in_err-last-in-Call.ensures.1 in
     let exact = subst (WorksOut db p c.args.moment c.args.sheet c.args.argument c.args.depth) (sym same)
-    (stops db p c.args.moment c.args.sheet c.args.argument c.args.depth c.loop-answers.answers c.loop-answers.point (Err fault) c.loop-answers-test.true c.loop-answers.invariant
-    (failed_on db p c.args.moment c.args.depth (30 - c.loop-answers.answers) c.loop-answers.point c.in-Call.sheet c.in-Call.argument fault c.if-depth-eq0.false asked
+    (stops db p c.args.moment c.args.sheet c.args.argument c.args.depth c.loop.counter c.loop.point (Err fault) c.loop-test.true c.loop.invariant
+    (failed_on db p c.args.moment c.args.depth (30 - c.loop.counter) c.loop.point c.in-Call.sheet c.in-Call.argument fault c.if-depth-eq0.false asked
     (omega (arith, c.if-sheet-sheets-2.false, c.sheets-in-Call.ensures)) c.in_err-last-in-Call.ensures.exact)) in
     record { exact = exact; means = evaluates db p c.args.moment c.args.sheet c.args.argument c.args.depth _ exact }
 
-pub loop-answers-preserved : goal.loop-answers-preserved
-loop-answers-preserved g t c =
+pub loop-preserved : goal.loop-preserved
+loop-preserved g t c =
     let db = g.D.Database.view c.args.db.now in
     let p = g.R.Recipe.rules c.args.recipe.now in
-    let q = c.loop-answers.point in
-    let i = c.loop-answers.answers in
+    let q = c.loop.point in
+    let i = c.loop.counter in
     let asked = sym (ap (λ t. t.ask) c.next-turn.ensures) in
     elim c.match-turn.branch [
       | in-Query+in_ok-last-in-Query w ↦
-          goes_on db p c.args.moment c.args.sheet c.args.argument c.args.depth i q c.next-turn.result c.match-turn.last _ c.loop-answers-test.true c.next-turn.ensures w.last-is c.loop-answers.invariant
+          goes_on db p c.args.moment c.args.sheet c.args.argument c.args.depth i q c.next-turn.result c.match-turn.last _ c.loop-test.true c.next-turn.ensures w.last-is c.loop.invariant
           (λ result x. works.Works.query w.in-Query.query _ (asked ∙ w.in-Query.is) w.in_ok-last-in-Query.ensures x)
       | in-Call+else-sheet-sheets-2+else-depth-eq0+in_ok-last-in-Call w ↦
-          goes_on db p c.args.moment c.args.sheet c.args.argument c.args.depth i q c.next-turn.result c.match-turn.last _ c.loop-answers-test.true c.next-turn.ensures w.last-is c.loop-answers.invariant
+          goes_on db p c.args.moment c.args.sheet c.args.argument c.args.depth i q c.next-turn.result c.match-turn.last _ c.loop-test.true c.next-turn.ensures w.last-is c.loop.invariant
           (λ result x. called_on db p c.args.moment c.args.depth (30 - i) q w.in-Call.sheet w.in-Call.argument _ result w.if-depth-eq0.false (asked ∙ w.in-Call.is)
           (omega (arith, w.if-sheet-sheets-2.false, w.sheets-in-Call.ensures)) w.in_ok-last-in-Call.ensures.exact x)
     ]
@@ -78,8 +78,8 @@ pub returns : goal.returns
 returns g t c =
     let db = g.D.Database.view c.args.db.now in
     let p = g.R.Recipe.rules c.args.recipe.now in
-    let q = c.loop-answers.point in
+    let q = c.loop.point in
     let same = c.last_answer.ensures ∙ ap (λ t. last_answer t.ask) c.next.ensures in
     let exact = subst (WorksOut db p c.args.moment c.args.sheet c.args.argument c.args.depth) (sym same)
-    (ends_last db p c.args.moment c.args.sheet c.args.argument c.args.depth c.loop-answers.answers q c.loop-answers-test.false c.loop-answers.invariant) in
+    (ends_last db p c.args.moment c.args.sheet c.args.argument c.args.depth c.loop.counter q c.loop-test.false c.loop.invariant) in
     record { exact = exact; means = evaluates db p c.args.moment c.args.sheet c.args.argument c.args.depth _ exact }
