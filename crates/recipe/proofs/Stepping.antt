@@ -163,54 +163,86 @@ begins db p m sheet argument depth h = record { there = h; upto = omega arith; o
 two_left : (used : ℕ) → used < 31 → 32 - used ≡ suc (suc (30 - used))
 two_left used h = omega arith
 
-pub stops : (db : Db) (p : Rules) (m sheet argument depth used : ℕ) (q : Point) (result : Result Reading Fault) → used < 31 → At db p m sheet argument depth used q
+stops : {db : Db} {p : Rules} {m sheet argument depth used : ℕ} {q : Point} {result : Result Reading Fault} → used < 31 → At db p m sheet argument depth used q
     → Works db p m depth (suc (suc (30 - used))) q result → WorksOut db p m sheet argument depth result
-stops db p m sheet argument depth used q result h at x = inr (at.there, at.onward result (subst (λ n. Works db p m depth n q result) (sym (two_left used h)) x))
+stops {db} {p} {m} {depth = depth} {used} {q} {result} h at x = inr (at.there, at.onward result (subst (λ n. Works db p m depth n q result) (sym (two_left used h)) x))
 
-pub goes_on : (db : Db) (p : Rules) (m sheet argument depth used : ℕ) (q : Point) (turn : Turn) (last v : Reading) → used < 31 → turn ≡ p.turn q → last ≡ v → At db p m sheet argument depth used q
-    → ((result : Result Reading Fault) → Works db p m depth (suc (30 - used)) (after (p.turn q) q v) result → Works db p m depth (suc (suc (30 - used))) q result)
+goes_on : (db : Db) (p : Rules) (m sheet argument depth used : ℕ) (q : Point) (turn : Turn) (last : Reading) → used < 31 → turn ≡ p.turn q → At db p m sheet argument depth used q
+    → ((result : Result Reading Fault) → Works db p m depth (suc (30 - used)) (after (p.turn q) q last) result → Works db p m depth (suc (suc (30 - used))) q result)
     → At db p m sheet argument depth (used + 1) (after turn q last)
-goes_on db p m sheet argument depth used q turn last v h e f at one = record {
+goes_on db p m sheet argument depth used q turn last h e at one = record {
   there = at.there;
   upto = omega arith;
   onward = λ result x.
       let same : 32 - (used + 1) ≡ suc (30 - used) = omega arith in
-      let next : after turn q last ≡ after (p.turn q) q v = ap (λ t. after t q last) e ∙ ap (after (p.turn q) q) f in
       let y = subst (λ n. Works db p m depth n (after turn q last) result) same x in
-      at.onward result (subst (λ n. Works db p m depth n q result) (sym (two_left used h)) (one result (subst (λ z. Works db p m depth (suc (30 - used)) z result) next y)));
+      at.onward result (subst (λ n. Works db p m depth n q result) (sym (two_left used h)) (one result (subst (λ t. Works db p m depth (suc (30 - used)) (after t q last) result) e y)));
 }
 
-pub ends_last : (db : Db) (p : Rules) (m sheet argument depth used : ℕ) (q : Point) → 31 ≤ used → At db p m sheet argument depth used q → WorksOut db p m sheet argument depth (last_answer (p.turn q).ask)
-ends_last db p m sheet argument depth used q h at =
-    let upto = at.upto in
-    let same : 1 ≡ 32 - used = omega arith in
-    inr (at.there, at.onward _ (subst (λ n. Works db p m depth n q (last_answer (p.turn q).ask)) same works.Works.last))
+-- a turn asks what it is known to ask under another name
+asks : {turn other : Turn} {ask : Ask} → turn ≡ other → turn.ask ≡ ask → other.ask ≡ ask
+asks e f = sym (ap (λ t. t.ask) e) ∙ f
+
+-- a fault that is handed on
+handed_on : (result : Result Reading Fault) {fault : Fault} → IsErrAnd result (λ f. f ≡ fault) → result ≡ Err fault
+handed_on (Ok reading) none = absurd none
+handed_on (Err f) same = ap (λ (x : Fault). Err x) same
 
 -- the depth that is left below a call
 below : (depth : ℕ) → (depth ≡ 0 → ⊥) → depth ≡ suc (depth - 1)
 below zero h = absurd (h refl)
 below (suc d) h = omega arith
 
--- a fault that is handed on
-pub handed_on : (result : Result Reading Fault) (fault : Fault) → IsErrAnd result (λ f. f ≡ fault) → result ≡ Err fault
-handed_on (Ok reading) fault none = absurd none
-handed_on (Err f) fault same = ap (λ (x : Fault). Err x) same
-
 -- the sheet that is called, by the depth that is left
-inner_works : (db : Db) (p : Rules) (m sh a depth : ℕ) (result : Result Reading Fault) → sh < p.sheets → WorksOut db p m sh a depth result → Works db p m depth 32 (start sh a) result
-inner_works db p m sh a depth result there (inl (out, same)) = absurd (omega arith)
-inner_works db p m sh a depth result there (inr (known, x)) = x
+inner_works : {db : Db} {p : Rules} {m sh a depth : ℕ} {result : Result Reading Fault} → sh < p.sheets → WorksOut db p m sh a depth result → Works db p m depth 32 (start sh a) result
+inner_works there (inl (out, same)) = absurd (omega arith)
+inner_works there (inr (known, x)) = x
 
-pub called_on : (db : Db) (p : Rules) (m depth n : ℕ) (q : Point) (sh a : ℕ) (v : Reading) (result : Result Reading Fault) → (depth ≡ 0 → ⊥) → (p.turn q).ask ≡ Call sh a → sh < p.sheets
-    → WorksOut db p m sh a (depth - 1) (Ok v) → Works db p m depth (suc n) (after (p.turn q) q v) result → Works db p m depth (suc (suc n)) q result
-called_on db p m depth n q sh a v result some is there inner x =
-    subst (λ d. Works db p m d (suc (suc n)) q result) (sym (below depth some))
-    (works.Works.call sh a v is there (inner_works db p m sh a (depth - 1) (Ok v) there inner) (subst (λ d. Works db p m d (suc n) (after (p.turn q) q v) result) (below depth some) x))
+-- how an answer ends the sheet, or leads to the next one
+pub ends_done : {db : Db} {p : Rules} {m sheet argument depth used : ℕ} {q : Point} {turn : Turn} {r : Reading} → used < 31 → At db p m sheet argument depth used q → turn ≡ p.turn q → turn.ask ≡ Done r
+    → WorksOut db p m sheet argument depth (Ok r)
+ends_done h at e is = stops h at (works.Works.done (asks e is))
 
-pub failed_on : (db : Db) (p : Rules) (m depth n : ℕ) (q : Point) (sh a : ℕ) (fault : Fault) → (depth ≡ 0 → ⊥) → (p.turn q).ask ≡ Call sh a → sh < p.sheets
-    → WorksOut db p m sh a (depth - 1) (Err fault) → Works db p m depth (suc (suc n)) q (Err fault)
-failed_on db p m depth n q sh a fault some is there inner =
-    subst (λ d. Works db p m d (suc (suc n)) q (Err fault)) (sym (below depth some)) (works.Works.failed sh a fault is there (inner_works db p m sh a (depth - 1) (Err fault) there inner))
+pub ends_refused : {db : Db} {p : Rules} {m sheet argument depth used : ℕ} {q : Point} {turn : Turn} {k : Query} {fault : Fault} {result : Result Reading Fault}
+    → used < 31 → At db p m sheet argument depth used q → turn ≡ p.turn q → turn.ask ≡ Asked k → ReadsAt db m k (Err fault) → IsErrAnd result (λ f. f ≡ fault) → WorksOut db p m sheet argument depth result
+ends_refused {db} {p} {m} {sheet} {argument} {depth} {k = k} {fault = fault} {result} h at e is why same =
+    subst (WorksOut db p m sheet argument depth) (sym (handed_on result same)) (stops h at (works.Works.refused k fault (asks e is) why))
 
-pub deep_on : (db : Db) (p : Rules) (m depth n : ℕ) (q : Point) (sh a : ℕ) → depth ≡ 0 → (p.turn q).ask ≡ Call sh a → sh < p.sheets → Works db p m depth (suc (suc n)) q (Err (TooDeep 0))
-deep_on db p m depth n q sh a none is there = subst (λ d. Works db p m d (suc (suc n)) q (Err (TooDeep 0))) (sym none) (works.Works.deep sh a is there)
+pub ends_unknown : {db : Db} {p : Rules} {m sheet argument depth used : ℕ} {q : Point} {turn : Turn} {sh a : ℕ} {fault : Fault} {result : Result Reading Fault}
+    → used < 31 → At db p m sheet argument depth used q → turn ≡ p.turn q → turn.ask ≡ Call sh a → (p.sheets ≤ sh) × (fault ≡ SheetUnknown 0) → IsErrAnd result (λ f. f ≡ fault) → WorksOut db p m sheet argument depth result
+ends_unknown {db} {p} {m} {sheet} {argument} {depth} {sh = sh} {a = a} {result = result} h at e is out same =
+    subst (WorksOut db p m sheet argument depth) (sym (handed_on result same ∙ ap (λ (x : Fault). Err x) out.1)) (stops h at (works.Works.unknown sh a (asks e is) out.0))
+
+pub ends_deep : {db : Db} {p : Rules} {m sheet argument depth used : ℕ} {q : Point} {turn : Turn} {sh a : ℕ}
+    → used < 31 → At db p m sheet argument depth used q → turn ≡ p.turn q → turn.ask ≡ Call sh a → sh < p.sheets → depth ≡ 0 → WorksOut db p m sheet argument depth (Err (TooDeep 0))
+ends_deep {db} {p} {m} {used = used} {q} {sh = sh} {a} h at e is there none =
+    stops h at (subst (λ d. Works db p m d (suc (suc (30 - used))) q (Err (TooDeep 0))) (sym none) (works.Works.deep sh a (asks e is) there))
+
+pub ends_failed : {db : Db} {p : Rules} {m sheet argument depth used : ℕ} {q : Point} {turn : Turn} {sh a : ℕ} {fault : Fault} {result : Result Reading Fault}
+    → used < 31 → At db p m sheet argument depth used q → turn ≡ p.turn q → turn.ask ≡ Call sh a → sh < p.sheets → (depth ≡ 0 → ⊥)
+    → WorksOut db p m sh a (depth - 1) (Err fault) → IsErrAnd result (λ f. f ≡ fault) → WorksOut db p m sheet argument depth result
+ends_failed {db} {p} {m} {sheet} {argument} {depth} {used} {q} {sh = sh} {a} {fault} {result} h at e is there some inner same =
+    subst (WorksOut db p m sheet argument depth) (sym (handed_on result same))
+    (stops h at (subst (λ d. Works db p m d (suc (suc (30 - used))) q (Err fault)) (sym (below depth some)) (works.Works.failed sh a fault (asks e is) there (inner_works there inner))))
+
+pub goes_query : {db : Db} {p : Rules} {m sheet argument depth used : ℕ} {q : Point} {turn : Turn} {k : Query} {last v : Reading}
+    → used < 31 → At db p m sheet argument depth used q → turn ≡ p.turn q → turn.ask ≡ Asked k → ReadsAt db m k (Ok v) → last ≡ v → At db p m sheet argument depth (used + 1) (after turn q last)
+goes_query {db} {p} {m} {sheet} {argument} {depth} {used} {q} {turn} {k} {last} h at e is reads same =
+    goes_on db p m sheet argument depth used q turn last h e at (λ result x. works.Works.query k last (asks e is) (subst (λ v. ReadsAt db m k (Ok v)) (sym same) reads) x)
+
+pub goes_call : {db : Db} {p : Rules} {m sheet argument depth used : ℕ} {q : Point} {turn : Turn} {sh a : ℕ} {last v : Reading}
+    → used < 31 → At db p m sheet argument depth used q → turn ≡ p.turn q → turn.ask ≡ Call sh a → sh < p.sheets → (depth ≡ 0 → ⊥)
+    → WorksOut db p m sh a (depth - 1) (Ok v) → last ≡ v → At db p m sheet argument depth (used + 1) (after turn q last)
+goes_call {db} {p} {m} {sheet} {argument} {depth} {used} {q} {turn} {sh} {a} {last} h at e is there some inner same =
+    goes_on db p m sheet argument depth used q turn last h e at
+    (λ result x. subst (λ d. Works db p m d (suc (suc (30 - used))) q result) (sym (below depth some))
+    (works.Works.call sh a last (asks e is) there (inner_works there (subst (λ v. WorksOut db p m sh a (depth - 1) (Ok v)) (sym same) inner))
+    (subst (λ d. Works db p m d (suc (30 - used)) (after (p.turn q) q last) result) (below depth some) x)))
+
+pub ends_last : {db : Db} {p : Rules} {m sheet argument depth used : ℕ} {q : Point} {turn : Turn} {result : Result Reading Fault}
+    → 31 ≤ used → At db p m sheet argument depth used q → turn ≡ p.turn q → result ≡ last_answer turn.ask → WorksOut db p m sheet argument depth result
+ends_last {db} {p} {m} {sheet} {argument} {depth} {used} {q} h at e is =
+    let upto = at.upto in
+    let same : 1 ≡ 32 - used = omega arith in
+    subst (WorksOut db p m sheet argument depth) (sym (is ∙ ap (λ t. last_answer t.ask) e))
+    (inr (at.there, at.onward _ (subst (λ n. Works db p m depth n q (last_answer (p.turn q).ask)) same works.Works.last)))
