@@ -67,7 +67,7 @@ dropped_core p o h e hall tx core is w none =
 
 pub hit_core : (p : Rules) (o : Origin) (h : List Event) (number sheet argument : ℕ) (hall : Hall) (tx : Transaction) (entry : Entry) (entries : List Entry) → Core p o h hall → find number hall.books.txs ≡ Some tx → has_frames tx ≡ false
     → Looks hall.entries (key_of sheet argument) tx.set hall.books.delivered (Some entry) → Same hall.entries entries
-    → Core p o (record { call = Sheet number sheet argument; changes = []; reply = Read entry.reading; given = Some (record { number = number; question = of_sheet sheet argument; reading = entry.reading }) } ∷ h)
+    → Core p o (record { call = Sheet number sheet argument; changes = []; reply = Ok (Read entry.reading); given = Some (record { number = number; question = of_sheet sheet argument; reading = entry.reading }) } ∷ h)
     (record { db = hall.db; entries = entries; books = with_tx (narrowed (hit_part hall.books.delivered entry) tx) hall.books.pins hall.books })
 hit_core p o h number sheet argument hall tx entry entries core is shut looks same =
     let T = hall.books.delivered in
@@ -77,7 +77,7 @@ hit_core p o h number sheet argument hall tx entry entries core is shut looks sa
     let newest = looks.1 in
     let parts = and_parts (is_key (key_of sheet argument) entry.key) (covers T entry newest.0) newest.2 in
     let claim = hit_claim o h hall.db T newest.0 entry (λ z. Gives p z entry.key.sheet entry.key.argument entry.reading) parts.1 (core.entries entry looks.0) in
-    core_given p o h (record { call = Sheet number sheet argument; changes = []; reply = Read entry.reading; given = Some (record { number = number; question = of_sheet sheet argument; reading = entry.reading }) })
+    core_given p o h (record { call = Sheet number sheet argument; changes = []; reply = Ok (Read entry.reading); given = Some (record { number = number; question = of_sheet sheet argument; reading = entry.reading }) })
     (record { db = hall.db; entries = entries; books = hall.books }) tx (hit_part T entry) tx.frames (λ z. Gives p z entry.key.sheet entry.key.argument entry.reading) newest.0
     (record { number = number; question = of_sheet sheet argument; reading = entry.reading })
     core₁ (found_at number hall.books.txs tx is) claim (among_of newest.0 tx.set newest.1) (hit_contains T newest.0 entry parts.1)
@@ -93,13 +93,13 @@ only_fresh sheet argument zero g x = some_frame g (fresh_frame sheet argument) (
 only_fresh sheet argument (suc i) g x = absurd (none_frame g x)
 
 pub miss_core : (p : Rules) (o : Origin) (h : List Event) (number sheet argument : ℕ) (hall : Hall) (tx : Transaction) (entries : List Entry) → Core p o h hall → find number hall.books.txs ≡ Some tx → sheet < p.sheets → Same hall.entries entries
-    → Core p o (record { call = Sheet number sheet argument; changes = []; reply = Open; given = None } ∷ h)
+    → Core p o (record { call = Sheet number sheet argument; changes = []; reply = Ok Open; given = None } ∷ h)
     (record { db = hall.db; entries = entries; books = with_tx (with_frames (fresh_frame sheet argument ∷ []) tx) hall.books.pins hall.books })
 miss_core p o h number sheet argument hall tx entries core is there same =
     let core₁ = same_entries p o h hall entries same core in
     let good = core.txs tx (found number hall.books.txs tx is).0 in
     let only : (i : ℕ) (g : Frame) → nth i (fresh_frame sheet argument ∷ []) ≡ Some g → g ≡ fresh_frame sheet argument = only_fresh sheet argument in
-    core_frames p o h (record { call = Sheet number sheet argument; changes = []; reply = Open; given = None }) (record { db = hall.db; entries = entries; books = hall.books }) tx (fresh_frame sheet argument ∷ []) core₁ (found_at number hall.books.txs tx is)
+    core_frames p o h (record { call = Sheet number sheet argument; changes = []; reply = Ok Open; given = None }) (record { db = hall.db; entries = entries; books = hall.books }) tx (fresh_frame sheet argument ∷ []) core₁ (found_at number hall.books.txs tx is)
     (λ i g x. subst (λ (y : Frame). Claim o h hall.db y.part (λ z. TowerTo p z i (fresh_frame sheet argument ∷ []))) (sym (only i g x)) (whole_claim o h hall.db (λ z. TowerTo p z i (fresh_frame sheet argument ∷ [])) (λ z. (here sheet argument, tt))))
     (λ pr i g x. ap (λ (y : Frame). y.part) (only i g x))
     (λ m a i g x. ap (λ (y : Frame). contains y.part.interval m) (only i g x) ∙ whole_inside p o h hall tx m core good a)
@@ -108,7 +108,7 @@ miss_core p o h number sheet argument hall tx entries core is there same =
 
 pub queried_core : (p : Rules) (o : Origin) (h : List Event) (number now m : ℕ) (query : Query) (hall : Hall) (tx tx' : Transaction) (db : Db) (pins : List Pin) (answer : Answer) → Core p o h hall → Sound db → find number hall.books.txs ≡ Some tx → has_frames tx ≡ false
     → Picks hall.db hall.books.pins tx now m db pins tx' → Asks db m query (Ok answer)
-    → Core p o (record { call = Directly number query now; changes = []; reply = Read answer.reading; given = Some (record { number = number; question = of_query query; reading = answer.reading }) } ∷ h)
+    → Core p o (record { call = Directly number query now; changes = []; reply = Ok (Read answer.reading); given = Some (record { number = number; question = of_query query; reading = answer.reading }) } ∷ h)
     (record { db = db; entries = hall.entries; books = with_tx (narrowed (answer_part answer) tx') pins hall.books })
 queried_core p o h number now m query hall tx tx' db pins answer core sound is shut picks asks =
     let at = found_at number hall.books.txs tx is in
@@ -118,7 +118,7 @@ queried_core p o h number now m query hall tx tx' db pins answer core sound is s
     let find₁ = find_replaced tx' hall.books.txs tx at' in
     let good = pick.core.txs tx' (found tx'.number (replaced tx' hall.books.txs) tx' find₁).0 in
     let claim = answer_claim o h db m query answer sound pick.core.faithful asks.0 asks.1 in
-    let e : Event = record { call = Directly number query now; changes = []; reply = Read answer.reading; given = Some (record { number = number; question = of_query query; reading = answer.reading }) } in
+    let e : Event = record { call = Directly number query now; changes = []; reply = Ok (Read answer.reading); given = Some (record { number = number; question = of_query query; reading = answer.reading }) } in
     let nar = narrowed (answer_part answer) tx' in
     let out = core_given p o h e hall₁ tx' (answer_part answer) tx'.frames (λ z. Reads z query answer.reading) m (record { number = number; question = of_query query; reading = answer.reading })
     pick.core find₁ claim pick.chosen asks.1.inside

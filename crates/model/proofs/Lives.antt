@@ -1,5 +1,5 @@
 -- The law stands after every list of calls.
-use Rattle.std.proofs.Common.{◌≡◌, ℕ, ◌+◌, Bool, true, false, cond, not, ◌&&◌, ◌||◌, eqb, List, [], ◌∷◌, length, Some, None, Option, sym, refl, ap, ◌∙◌, subst, ⊎_elim, arith}
+use Rattle.std.proofs.Common.{◌≡◌, ℕ, ◌+◌, Bool, true, false, cond, not, ◌&&◌, ◌||◌, eqb, List, [], ◌∷◌, length, Some, None, Option, sym, refl, ap, ◌∙◌, subst, ⊎_elim, arith, Ok}
 use Rattle.std.proofs.lemmas.Bool.{cases_Bool, both_ways, cond-true, cond-false, or_cases, eqb-true}
 use Rattle.std.proofs.lemmas.List.{length-map}
 use Rattle.terms.specs.declared.record.Change.{Change}
@@ -10,10 +10,9 @@ use Rattle.cache.specs.Lists.{Among}
 use Rattle.recipe.specs.Recipes.{Rules}
 use Rattle.model.specs.declared.call.Call.{Call}
 use Rattle.model.specs.declared.call.Call.TheVariants.{Write}
-use Rattle.model.specs.declared.call.Reply.{Reply}
 use Rattle.model.specs.declared.call.Reply.TheVariants.{Written as Wrote}
 use Rattle.model.specs.Books.{Transaction, Books, Hall, find, removed, moments}
-use Rattle.model.specs.Calls.{Given, Does, Makes}
+use Rattle.model.specs.Calls.{Outcome, Given, Does, Makes}
 use Rattle.model.specs.Calls as calls
 use Rattle.model.specs.Traces.{Origin, Event, is_write, Lives}
 use Rattle.model.specs.Traces as traces
@@ -28,7 +27,7 @@ unchanged : (p : Rules) (o : Origin) (h : List Event) (e : Event) (hall : Hall) 
 unchanged p o h e hall w none core = core_append p o h e hall w (gives_nothing p o h e hall.books.next hall.books.txs none) core
 
 -- each call keeps what is carried
-does_core : (p : Rules) (o : Origin) (h : List Event) (hall hall' : Hall) (call : Call) (changes : List Change) (reply : Reply) (given : Option Given) → Core p o h hall → Sound hall'.db → Does p hall call changes reply given hall'
+does_core : (p : Rules) (o : Origin) (h : List Event) (hall hall' : Hall) (call : Call) (changes : List Change) (reply : Outcome) (given : Option Given) → Core p o h hall → Sound hall'.db → Does p hall call changes reply given hall'
     → Core p o (record { call = call; changes = changes; reply = reply; given = given } ∷ h) hall'
 does_core p o h hall hall' call changes reply given core sound (calls.Does.refused c cs fault is) =
     unchanged p o h _ hall refl refl core
@@ -54,7 +53,7 @@ does_core p o h hall hall' call changes reply given core sound (calls.Does.step_
 does_core p o h hall hall' call changes reply given core sound (calls.Does.step_last number now reading tx frame entries is fr asked enters) = step_last_core p o h number now reading hall tx frame entries core is fr asked enters
 does_core p o h hall hall' call changes reply given core sound (calls.Does.committed number tx is) = end_core p o h number hall tx _ core is refl refl
 does_core p o h hall hall' call changes reply given core sound (calls.Does.aborted number tx is) = end_core p o h number hall tx _ core is refl refl
-does_core p o h hall hall' call changes reply given core sound (calls.Does.wrote cs moment db is written) = write_core p o h (record { call = Write; changes = cs; reply = Wrote moment; given = None }) moment hall db core sound refl refl written
+does_core p o h hall hall' call changes reply given core sound (calls.Does.wrote cs moment db is written) = write_core p o h (record { call = Write; changes = cs; reply = Ok (Wrote moment); given = None }) moment hall db core sound refl refl written
 does_core p o h hall hall' call changes reply given core sound (calls.Does.delivered row rows entries first closes) = deliver_core p o h _ hall row rows entries core refl refl first closes
 does_core p o h hall hall' call changes reply given core sound (calls.Does.swept now age db entries unpins drops) = sweep_core p o h _ now age hall db entries _ core sound refl refl unpins drops
 
@@ -88,7 +87,7 @@ pub record Counts (h : List Event) (txs : List Transaction) : Type 0 where
   pub counted : how_many is_begin h ≡ (how_many is_commit h + how_many is_abort h) + length txs
   pub exactly : (n : ℕ) → among n (numbers txs) ≡ is_open_in n h
 
-abbrev Neutral : Call → Reply → Type 0
+abbrev Neutral : Call → Outcome → Type 0
 Neutral call reply = (is_begin reply ≡ false) × (is_commit reply ≡ false) × (is_abort reply ≡ false) × ((n : ℕ) → starts n reply ≡ false) × ((n : ℕ) → finishes n call reply ≡ false)
 
 same_length : (one other : List Transaction) → numbers one ≡ numbers other → length one ≡ length other
@@ -154,7 +153,7 @@ counts_begin h e n tx txs begins no-commit no_Abort start no_end is c = record {
     either true b = refl
     either false b = refl
 
-does_counts : (p : Rules) (h : List Event) (hall hall' : Hall) (call : Call) (changes : List Change) (reply : Reply) (given : Option Given) → distinct (numbers hall.books.txs) ≡ true → Does p hall call changes reply given hall' → Counts h hall.books.txs
+does_counts : (p : Rules) (h : List Event) (hall hall' : Hall) (call : Call) (changes : List Change) (reply : Outcome) (given : Option Given) → distinct (numbers hall.books.txs) ≡ true → Does p hall call changes reply given hall' → Counts h hall.books.txs
     → Counts (record { call = call; changes = changes; reply = reply; given = given } ∷ h) hall'.books.txs
 does_counts p h hall hall' call changes reply given apart (calls.Does.refused cl cs fault is) c = counts_same h _ hall.books.txs hall.books.txs (refl, refl, refl, λ n. refl, λ n. refl) refl c
 does_counts p h hall hall' call changes reply given apart (calls.Does.began now limit is) c = counts_begin h _ hall.books.next _ hall.books.txs refl refl refl (λ k. refl) (λ k. refl) refl c

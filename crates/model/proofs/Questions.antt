@@ -1,5 +1,5 @@
 -- What is answered at the end of a sheet answers the transaction's last accepted call: the bottom frame is that sheet's.
-use Rattle.std.proofs.Common.{◌≡◌, ℕ, Bool, true, false, cond, eqb, List, [], ◌∷◌, map, Some, None, Option, sym, refl, ap, ◌∙◌, subst, inl, inr, ⊎_elim, arith}
+use Rattle.std.proofs.Common.{◌≡◌, ℕ, Bool, true, false, cond, eqb, List, [], ◌∷◌, map, Some, None, Option, sym, refl, ap, ◌∙◌, subst, inl, inr, ⊎_elim, arith, Ok, Err}
 use Rattle.std.proofs.lemmas.Bool.{cases_Bool, both_ways, eqb-true, eq-eqb}
 use Rattle.terms.specs.declared.record.Change.{Change}
 use Rattle.terms.specs.Records.{Reading}
@@ -8,11 +8,10 @@ use Rattle.database.specs.Databases.{Db}
 use Rattle.cache.specs.Lists.{Among}
 use Rattle.recipe.specs.Recipes.{Rules}
 use Rattle.model.specs.declared.call.Call.{Call}
-use Rattle.model.specs.declared.call.Reply.{Reply}
-use Rattle.model.specs.declared.call.Reply.TheVariants.{Began, Read, Open, Committed, Aborted, Written as Wrote, Delivered, Swept, Refused}
+use Rattle.model.specs.declared.call.Reply.TheVariants.{Began, Read, Open, Committed, Aborted, Written as Wrote, Delivered, Swept}
 use Rattle.model.specs.Books.{Pin, Part, Frame, Transaction, Books, Hall, fresh_frame, find, replaced, removed}
 use Rattle.model.specs.Rules.{Picks, taken, pinned, gave_up, kept, hit_part, answer_part, cut, narrowed}
-use Rattle.model.specs.Calls.{Question, of_query, of_sheet, Given, Does, went, handed, with_frames, begun}
+use Rattle.model.specs.Calls.{Outcome, Question, of_query, of_sheet, Given, Does, went, handed, with_frames, begun}
 use Rattle.model.specs.Calls as calls
 use Rattle.model.specs.Traces.{Origin, Event, Lives}
 use Rattle.model.specs.Traces as traces
@@ -107,7 +106,7 @@ asks_own n number q x is = ap (λ b. last_of (cond b (Some q) None) x) (eq-eqb n
 asks_other : (n number : ℕ) (q : Question) (x : Option Question) → eqb n number ≡ false → last_of (cond (eqb n number) (Some q) None) x ≡ x
 asks_other n number q x other = ap (λ b. last_of (cond b (Some q) None) x) other
 
-does_rooted : (p : Rules) (h : List Event) (hall hall' : Hall) (call : Call) (changes : List Change) (reply : Reply) (given : Option Given) → distinct (numbers hall.books.txs) ≡ true → Does p hall call changes reply given hall' → Rooted h hall.books.txs
+does_rooted : (p : Rules) (h : List Event) (hall hall' : Hall) (call : Call) (changes : List Change) (reply : Outcome) (given : Option Given) → distinct (numbers hall.books.txs) ≡ true → Does p hall call changes reply given hall' → Rooted h hall.books.txs
     → Rooted (record { call = call; changes = changes; reply = reply; given = given } ∷ h) hall'.books.txs
 does_rooted p h hall hall' call changes reply given apart (calls.Does.refused cl cs fault is) rooted = rooted_skip h _ hall.books.txs (λ n. refl) rooted
 does_rooted p h hall hall' call changes reply given apart (calls.Does.began now limit is) rooted = rooted_began h _ (begun now limit hall.books) hall.books.txs (λ n. refl) refl rooted
@@ -153,29 +152,29 @@ rooted p o h hall (traces.Lives.then trace before after event lives does sound) 
     does_rooted p trace before after event.call event.changes event.reply event.given (carried p o trace before lives).0.apart does (rooted p o trace before lives)
 
 -- what is answered
-abbrev read_of : Reply → Reading → Reading
-read_of (Began number moments) other = other
-read_of (Read reading) other = reading
-read_of Open other = other
-read_of (Committed moment) other = other
-read_of Aborted other = other
-read_of (Wrote moment) other = other
-read_of (Delivered moment) other = other
-read_of (Swept pins) other = other
-read_of (Refused fault) other = other
+abbrev read_of : Outcome → Reading → Reading
+read_of (Ok (Began number moments)) other = other
+read_of (Ok (Read reading)) other = reading
+read_of (Ok Open) other = other
+read_of (Ok (Committed moment)) other = other
+read_of (Ok Aborted) other = other
+read_of (Ok (Wrote moment)) other = other
+read_of (Ok (Delivered moment)) other = other
+read_of (Ok (Swept pins)) other = other
+read_of (Err fault) other = other
 
-abbrev is_read : Reply → Bool
-is_read (Began number moments) = false
-is_read (Read reading) = true
-is_read Open = false
-is_read (Committed moment) = false
-is_read Aborted = false
-is_read (Wrote moment) = false
-is_read (Delivered moment) = false
-is_read (Swept pins) = false
-is_read (Refused fault) = false
+abbrev is_read : Outcome → Bool
+is_read (Ok (Began number moments)) = false
+is_read (Ok (Read reading)) = true
+is_read (Ok Open) = false
+is_read (Ok (Committed moment)) = false
+is_read (Ok Aborted) = false
+is_read (Ok (Wrote moment)) = false
+is_read (Ok (Delivered moment)) = false
+is_read (Ok (Swept pins)) = false
+is_read (Err fault) = false
 
-other_reply : {X : Type 0} (reply : Reply) (reading : Reading) → is_read reply ≡ false → reply ≡ Read reading → X
+other_reply : {X : Type 0} (reply : Outcome) (reading : Reading) → is_read reply ≡ false → reply ≡ Ok (Read reading) → X
 other_reply reply reading not-read e = absurd (both_ways (is_read reply) not-read (ap is_read e))
 
 abbrev given_as : ℕ → Question → Reading → Given
@@ -187,8 +186,8 @@ one_question q w e = cc
 same_given : (number n : ℕ) (q w : Question) (r s : Reading) → number ≡ n → q ≡ w → r ≡ s → Some (given_as number q r) ≡ Some (given_as n w s)
 same_given number n q w r s a b c = ap (λ x. Some (given_as x q r)) a ∙ ap (λ x. Some (given_as n x r)) b ∙ ap (λ x. Some (given_as n w x)) c
 
-does_answered : (p : Rules) (h : List Event) (hall hall' : Hall) (call : Call) (changes : List Change) (reply : Reply) (given : Option Given) (n : ℕ) (question : Question) (answer : Reading) → Does p hall call changes reply given hall' → Rooted h hall.books.txs
-    → is_by n call ≡ true → reply ≡ Read answer → last_asked n (record { call = call; changes = changes; reply = reply; given = given } ∷ h) ≡ Some question → given ≡ Some (given_as n question answer)
+does_answered : (p : Rules) (h : List Event) (hall hall' : Hall) (call : Call) (changes : List Change) (reply : Outcome) (given : Option Given) (n : ℕ) (question : Question) (answer : Reading) → Does p hall call changes reply given hall' → Rooted h hall.books.txs
+    → is_by n call ≡ true → reply ≡ Ok (Read answer) → last_asked n (record { call = call; changes = changes; reply = reply; given = given } ∷ h) ≡ Some question → given ≡ Some (given_as n question answer)
 does_answered p h hall hall' call changes reply given n question answer (calls.Does.refused cl cs fault is) rooted by told last = other_reply _ answer refl told
 does_answered p h hall hall' call changes reply given n question answer (calls.Does.began now limit is) rooted by told last = other_reply _ answer refl told
 does_answered p h hall hall' call changes reply given n question answer (calls.Does.hit number sheet argument tx entry entries is shut there looks same) rooted by told last =

@@ -52,7 +52,7 @@ again f last = leb-false 32 (f.answers + 1) last
 pub step_query_core : (p : Rules) (o : Origin) (h : List Event) (number now m : ℕ) (query : Query) (hall : Hall) (tx tx' : Transaction) (frame : Frame) (frames : List Frame) (db : Db) (pins : List Pin) (answer : Answer) → Core p o h hall → Sound db
     → find number hall.books.txs ≡ Some tx → tx.frames ≡ frame ∷ frames → last_answer frame ≡ false → (p.turn frame.point).ask ≡ Asked query → known_table (table_of query) ≡ true
     → Picks hall.db hall.books.pins tx now m db pins tx' → Asks db m query (Ok answer)
-    → Core p o (record { call = Step number now; changes = []; reply = Open; given = Some (record { number = number; question = of_query query; reading = answer.reading }) } ∷ h)
+    → Core p o (record { call = Step number now; changes = []; reply = Ok Open; given = Some (record { number = number; question = of_query query; reading = answer.reading }) } ∷ h)
     (record { db = db; entries = hall.entries; books = with_tx (narrowed (answer_part answer) (with_frames (went p frame answer.reading ∷ frames) tx')) pins hall.books })
 step_query_core p o h number now m query hall tx tx' frame frames db pins answer core sound is fr last asked known picks asks =
     let at = found_at number hall.books.txs tx is in
@@ -64,7 +64,7 @@ step_query_core p o h number now m query hall tx tx' frame frames db pins answer
     let fr' : tx'.frames ≡ frame ∷ frames = pick.frames ∙ fr in
     let stack = subst (Stack p o h db) fr' good.stack in
     let claim = answer_claim o h db m query answer sound pick.core.faithful asks.0 asks.1 in
-    let e : Event = record { call = Step number now; changes = []; reply = Open; given = Some (record { number = number; question = of_query query; reading = answer.reading }) } in
+    let e : Event = record { call = Step number now; changes = []; reply = Ok Open; given = Some (record { number = number; question = of_query query; reading = answer.reading }) } in
     let f' = went p frame answer.reading in
     let inside : (m : ℕ) → among m tx'.set ≡ true → (i : ℕ) (g : Frame) → nth i (frame ∷ frames) ≡ Some g → contains g.part.interval m ≡ true = λ n a i g x. good.inside n a i g (ap (nth i) fr' ∙ x) in
     let sheets : (i : ℕ) (g : Frame) → nth i (frame ∷ frames) ≡ Some g → (g.point.sheet < p.sheets) × (g.answers < 32) = λ i g x. good.sheets i g (ap (nth i) fr' ∙ x) in
@@ -80,7 +80,7 @@ step_query_core p o h number now m query hall tx tx' frame frames db pins answer
 pub step_hit_core : (p : Rules) (o : Origin) (h : List Event) (number now sheet argument : ℕ) (hall : Hall) (tx : Transaction) (frame : Frame) (frames : List Frame) (entry : Entry) (entries : List Entry) → Core p o h hall
     → find number hall.books.txs ≡ Some tx → tx.frames ≡ frame ∷ frames → last_answer frame ≡ false → (p.turn frame.point).ask ≡ Called sheet argument
     → Looks hall.entries (key_of sheet argument) tx.set hall.books.delivered (Some entry) → Same hall.entries entries
-    → Core p o (record { call = Step number now; changes = []; reply = Open; given = Some (record { number = number; question = of_sheet sheet argument; reading = entry.reading }) } ∷ h)
+    → Core p o (record { call = Step number now; changes = []; reply = Ok Open; given = Some (record { number = number; question = of_sheet sheet argument; reading = entry.reading }) } ∷ h)
     (record { db = hall.db; entries = entries; books = with_tx (narrowed (hit_part hall.books.delivered entry) (with_frames (went p frame entry.reading ∷ frames) tx)) hall.books.pins hall.books })
 step_hit_core p o h number now sheet argument hall tx frame frames entry entries core is fr last asked looks same =
     let T = hall.books.delivered in
@@ -95,7 +95,7 @@ step_hit_core p o h number now sheet argument hall tx frame frames entry entries
     let right : (z : Records) → Q z → Gives p z sheet argument entry.reading = λ z x. key_gives p z sheet argument entry entry.reading parts.0 x in
     let inside : (m : ℕ) → among m tx.set ≡ true → (i : ℕ) (g : Frame) → nth i (frame ∷ frames) ≡ Some g → contains g.part.interval m ≡ true = λ n a i g x. good.inside n a i g (ap (nth i) fr ∙ x) in
     let sheets : (i : ℕ) (g : Frame) → nth i (frame ∷ frames) ≡ Some g → (g.point.sheet < p.sheets) × (g.answers < 32) = λ i g x. good.sheets i g (ap (nth i) fr ∙ x) in
-    core_given p o h (record { call = Step number now; changes = []; reply = Open; given = Some (record { number = number; question = of_sheet sheet argument; reading = entry.reading }) })
+    core_given p o h (record { call = Step number now; changes = []; reply = Ok Open; given = Some (record { number = number; question = of_sheet sheet argument; reading = entry.reading }) })
     (record { db = hall.db; entries = entries; books = hall.books }) tx (hit_part T entry) (f' ∷ frames) Q newest.0
     (record { number = number; question = of_sheet sheet argument; reading = entry.reading })
     core₁ (found_at number hall.books.txs tx is) claim (among_of newest.0 tx.set newest.1) (hit_contains T newest.0 entry parts.1)
@@ -111,14 +111,14 @@ above P f fs here all (suc i) g is = all i g is
 
 pub step_miss_core : (p : Rules) (o : Origin) (h : List Event) (number now sheet argument : ℕ) (hall : Hall) (tx : Transaction) (frame : Frame) (frames : List Frame) (entries : List Entry) → Core p o h hall
     → find number hall.books.txs ≡ Some tx → tx.frames ≡ frame ∷ frames → last_answer frame ≡ false → (p.turn frame.point).ask ≡ Called sheet argument → sheet < p.sheets → Same hall.entries entries
-    → Core p o (record { call = Step number now; changes = []; reply = Open; given = None } ∷ h)
+    → Core p o (record { call = Step number now; changes = []; reply = Ok Open; given = None } ∷ h)
     (record { db = hall.db; entries = entries; books = with_tx (with_frames (fresh_frame sheet argument ∷ went p frame frame.point.last ∷ frames) tx) hall.books.pins hall.books })
 step_miss_core p o h number now sheet argument hall tx frame frames entries core is fr last asked there same =
     let core₁ = same_entries p o h hall entries same core in
     let good = core.txs tx (found number hall.books.txs tx is).0 in
     let f' = went p frame frame.point.last in
     let to : (i : ℕ) (g : Frame) → nth i (frame ∷ frames) ≡ Some g → nth i tx.frames ≡ Some g = λ i g x. ap (nth i) fr ∙ x in
-    core_frames p o h (record { call = Step number now; changes = []; reply = Open; given = None }) (record { db = hall.db; entries = entries; books = hall.books }) tx (fresh_frame sheet argument ∷ f' ∷ frames) core₁ (found_at number hall.books.txs tx is)
+    core_frames p o h (record { call = Step number now; changes = []; reply = Ok Open; given = None }) (record { db = hall.db; entries = entries; books = hall.books }) tx (fresh_frame sheet argument ∷ f' ∷ frames) core₁ (found_at number hall.books.txs tx is)
     (stack_opened p o h hall.db frame f' frames sheet argument refl refl refl (λ z c. record { count = frame.answers; from = frame.point; comes = c; asks = asked; next = refl; onto = λ v. refl }) (subst (Stack p o h hall.db) fr good.stack))
     (λ pr. above (λ g. g.part ≡ whole_part) (fresh_frame sheet argument) (f' ∷ frames) refl (part_same (λ part. part ≡ whole_part) frame f' frames refl (λ i g x. good.whole pr i g (to i g x))))
     (λ m a. above (λ g. contains g.part.interval m ≡ true) (fresh_frame sheet argument) (f' ∷ frames) (whole_inside p o h hall tx m core good a) (part_same (λ part. contains part.interval m ≡ true) frame f' frames refl (λ i g x. good.inside m a i g (to i g x))))
@@ -186,7 +186,7 @@ done_right p o h hall tx frame frames reading core own fr is =
 pub step_done_core : (p : Rules) (o : Origin) (h : List Event) (number now : ℕ) (reading : Reading) (hall : Hall) (tx : Transaction) (frame below : Frame) (frames : List Frame) (entries : List Entry) → Core p o h hall
     → find number hall.books.txs ≡ Some tx → tx.frames ≡ frame ∷ below ∷ frames → (p.turn frame.point).ask ≡ Done reading
     → Enters hall.entries (entering hall.books.delivered frame reading) entries
-    → Core p o (record { call = Step number now; changes = []; reply = Open; given = Some (record { number = number; question = of_sheet frame.point.sheet frame.point.argument; reading = reading }) } ∷ h)
+    → Core p o (record { call = Step number now; changes = []; reply = Ok Open; given = Some (record { number = number; question = of_sheet frame.point.sheet frame.point.argument; reading = reading }) } ∷ h)
     (record { db = hall.db; entries = entries; books = with_tx (with_frames (handed reading below ∷ frames) tx) hall.books.pins hall.books })
 step_done_core p o h number now reading hall tx frame below frames entries core is fr asked enters =
     let own = found number hall.books.txs tx is in
@@ -195,7 +195,7 @@ step_done_core p o h number now reading hall tx frame below frames entries core 
     let right = done_right p o h hall tx frame (below ∷ frames) reading core own.0 fr asked in
     let top = good.sheets 0 frame (ap (nth 0) fr) in
     let core₁ = core_entries p o h hall entries core (entered_good p o h hall frame reading entries (entering hall.books.delivered frame reading) core (forward p o h hall.db hall.books.pins hall.books.next tx 0 frame good (ap (nth 0) fr)) right.0 refl enters) in
-    core_frames p o h (record { call = Step number now; changes = []; reply = Open; given = Some (record { number = number; question = of_sheet frame.point.sheet frame.point.argument; reading = reading }) })
+    core_frames p o h (record { call = Step number now; changes = []; reply = Ok Open; given = Some (record { number = number; question = of_sheet frame.point.sheet frame.point.argument; reading = reading }) })
     (record { db = hall.db; entries = entries; books = hall.books }) tx (handed reading below ∷ frames) core₁ (found_at number hall.books.txs tx is)
     (stack_done p o h hall.db frame below frames reading top.0 top.1 asked (subst (Stack p o h hall.db) fr good.stack))
     (λ pr. part_same (λ part. part ≡ whole_part) below (handed reading below) frames refl (λ i g x. good.whole pr (suc i) g (to i g x)))
@@ -212,14 +212,14 @@ step_done_core p o h number now reading hall tx frame below frames entries core 
 pub step_last_core : (p : Rules) (o : Origin) (h : List Event) (number now : ℕ) (reading : Reading) (hall : Hall) (tx : Transaction) (frame : Frame) (entries : List Entry) → Core p o h hall
     → find number hall.books.txs ≡ Some tx → tx.frames ≡ frame ∷ [] → (p.turn frame.point).ask ≡ Done reading
     → Enters hall.entries (entering hall.books.delivered frame reading) entries
-    → Core p o (record { call = Step number now; changes = []; reply = Read reading; given = Some (record { number = number; question = of_sheet frame.point.sheet frame.point.argument; reading = reading }) } ∷ h)
+    → Core p o (record { call = Step number now; changes = []; reply = Ok (Read reading); given = Some (record { number = number; question = of_sheet frame.point.sheet frame.point.argument; reading = reading }) } ∷ h)
     (record { db = hall.db; entries = entries; books = with_tx (with_frames [] tx) hall.books.pins hall.books })
 step_last_core p o h number now reading hall tx frame entries core is fr asked enters =
     let own = found number hall.books.txs tx is in
     let good = core.txs tx own.0 in
     let right = done_right p o h hall tx frame [] reading core own.0 fr asked in
     let core₁ = core_entries p o h hall entries core (entered_good p o h hall frame reading entries (entering hall.books.delivered frame reading) core (forward p o h hall.db hall.books.pins hall.books.next tx 0 frame good (ap (nth 0) fr)) right.0 refl enters) in
-    core_frames p o h (record { call = Step number now; changes = []; reply = Read reading; given = Some (record { number = number; question = of_sheet frame.point.sheet frame.point.argument; reading = reading }) })
+    core_frames p o h (record { call = Step number now; changes = []; reply = Ok (Read reading); given = Some (record { number = number; question = of_sheet frame.point.sheet frame.point.argument; reading = reading }) })
     (record { db = hall.db; entries = entries; books = hall.books }) tx [] core₁ (found_at number hall.books.txs tx is)
     (λ i g x. absurd (none_frame g x)) (λ pr i g x. absurd (none_frame g x)) (λ m a i g x. absurd (none_frame g x)) (λ i g x. absurd (none_frame g x)) refl
     (λ given nw.

@@ -85,7 +85,7 @@ after_ticket s ticket (Some value) =
     let word = value.word in
     (_, query {left = 30} (get_of 0 word) (shown (seen s 0 word)) refl refl refl (done {left = 29} (ap (λ (r : Reading). Done r) (claimed_is s ticket (narrow word) word refl))))
 
-claim_gives : (s : Records) (ticket : ℕ) → GivesWithin attendant s 0 0 ticket (claim_of s ticket)
+pub claim_gives : (s : Records) (ticket : ℕ) → GivesWithin attendant s 0 0 ticket (claim_of s ticket)
 claim_gives s ticket =
     let rest = after_ticket s ticket (seen s 1 ticket) in
     (lit< tt, (_, query {left = 31} (get_of 1 ticket) (shown (seen s 1 ticket)) refl refl refl rest.1))
@@ -130,7 +130,7 @@ tally_worth s argument d n r ts run =
     (λ (e : leb argument 255 ≡ false). subst (λ b. MatchBool b (Reads s (Tally 0 argument) r) (r ≡ None)) (sym e) (tally_none s argument d n r ts e run))
     (cases_Bool (leb argument 255))
 
-tally_runs : (s : Records) (argument d : ℕ) (keys : List ℕ) → leb argument 255 ≡ true → KeysIn s 0 argument keys → Ends board s d 32 (start 0 argument) (tallied keys)
+pub tally_runs : (s : Records) (argument d : ℕ) (keys : List ℕ) → leb argument 255 ≡ true → KeysIn s 0 argument keys → Ends board s d 32 (start 0 argument) (tallied keys)
 tally_runs s argument d keys e told = (
   _,
   query {left = 31} (Tally 0 argument) (tallied keys) (ap (λ t. t.ask) (tally_turn_is argument e)) refl (keys, told, refl)
