@@ -188,11 +188,6 @@ handed_on : (result : Result Reading Fault) {fault : Fault} → IsErrAnd result 
 handed_on (Ok reading) none = absurd none
 handed_on (Err f) same = ap (λ (x : Fault). Err x) same
 
--- the depth that is left below a call
-below : (depth : ℕ) → (depth ≡ 0 → ⊥) → depth ≡ suc (depth - 1)
-below zero h = absurd (h refl)
-below (suc d) h = omega arith
-
 -- the sheet that is called, by the depth that is left
 inner_works : {db : Db} {p : Rules} {m sh a depth : ℕ} {result : Result Reading Fault} → sh < p.sheets → WorksOut db p m sh a depth result → Works db p m depth 32 (start sh a) result
 inner_works there (inl (out, same)) = absurd (omega arith)
@@ -213,31 +208,32 @@ pub ends_unknown : {db : Db} {p : Rules} {m sheet argument depth used : ℕ} {q 
 ends_unknown {db} {p} {m} {sheet} {argument} {depth} {sh = sh} {a = a} {result = result} h at e is out same =
     subst (WorksOut db p m sheet argument depth) (sym (handed_on result same ∙ ap (λ (x : Fault). Err x) out.1)) (stops h at (works.Works.unknown sh a (asks e is) out.0))
 
-pub ends_deep : {db : Db} {p : Rules} {m sheet argument depth used : ℕ} {q : Point} {turn : Turn} {sh a : ℕ}
-    → used < 31 → At db p m sheet argument depth used q → turn ≡ p.turn q → turn.ask ≡ Call sh a → sh < p.sheets → depth ≡ 0 → WorksOut db p m sheet argument depth (Err (TooDeep 0))
-ends_deep {db} {p} {m} {used = used} {q} {sh = sh} {a} h at e is there none =
-    stops h at (subst (λ d. Works db p m d (suc (suc (30 - used))) q (Err (TooDeep 0))) (sym none) (works.Works.deep sh a (asks e is) there))
+pub ends_deep : {db : Db} {p : Rules} {m sheet argument depth used : ℕ} {q : Point} {turn : Turn} {sh a : ℕ} {fault : Fault} {result : Result Reading Fault}
+    → used < 31 → At db p m sheet argument depth used q → turn ≡ p.turn q → turn.ask ≡ Call sh a → sh < p.sheets → (depth ≡ 0) × (fault ≡ TooDeep 0) → IsErrAnd result (λ f. f ≡ fault) → WorksOut db p m sheet argument depth result
+ends_deep {db} {p} {m} {sheet} {argument} {depth} {used} {q} {sh = sh} {a} {result = result} h at e is there none same =
+    subst (WorksOut db p m sheet argument depth) (sym (handed_on result same ∙ ap (λ (x : Fault). Err x) none.1))
+    (stops h at (subst (λ d. Works db p m d (suc (suc (30 - used))) q (Err (TooDeep 0))) (sym none.0) (works.Works.deep sh a (asks e is) there)))
 
-pub ends_failed : {db : Db} {p : Rules} {m sheet argument depth used : ℕ} {q : Point} {turn : Turn} {sh a : ℕ} {fault : Fault} {result : Result Reading Fault}
-    → used < 31 → At db p m sheet argument depth used q → turn ≡ p.turn q → turn.ask ≡ Call sh a → sh < p.sheets → (depth ≡ 0 → ⊥)
-    → WorksOut db p m sh a (depth - 1) (Err fault) → IsErrAnd result (λ f. f ≡ fault) → WorksOut db p m sheet argument depth result
-ends_failed {db} {p} {m} {sheet} {argument} {depth} {used} {q} {sh = sh} {a} {fault} {result} h at e is there some inner same =
+pub ends_failed : {db : Db} {p : Rules} {m sheet argument depth left used : ℕ} {q : Point} {turn : Turn} {sh a : ℕ} {fault : Fault} {result : Result Reading Fault}
+    → used < 31 → At db p m sheet argument depth used q → turn ≡ p.turn q → turn.ask ≡ Call sh a → sh < p.sheets → depth ≡ suc left
+    → WorksOut db p m sh a left (Err fault) → IsErrAnd result (λ f. f ≡ fault) → WorksOut db p m sheet argument depth result
+ends_failed {db} {p} {m} {sheet} {argument} {depth} {used = used} {q} {sh = sh} {a} {fault} {result} h at e is there left inner same =
     subst (WorksOut db p m sheet argument depth) (sym (handed_on result same))
-    (stops h at (subst (λ d. Works db p m d (suc (suc (30 - used))) q (Err fault)) (sym (below depth some)) (works.Works.failed sh a fault (asks e is) there (inner_works there inner))))
+    (stops h at (subst (λ d. Works db p m d (suc (suc (30 - used))) q (Err fault)) (sym left) (works.Works.failed sh a fault (asks e is) there (inner_works there inner))))
 
 pub goes_query : {db : Db} {p : Rules} {m sheet argument depth used : ℕ} {q : Point} {turn : Turn} {k : Query} {last v : Reading}
     → used < 31 → At db p m sheet argument depth used q → turn ≡ p.turn q → turn.ask ≡ Asked k → ReadsAt db m k (Ok v) → last ≡ v → At db p m sheet argument depth (used + 1) (after turn q last)
 goes_query {db} {p} {m} {sheet} {argument} {depth} {used} {q} {turn} {k} {last} h at e is reads same =
     goes_on db p m sheet argument depth used q turn last h e at (λ result x. works.Works.query k last (asks e is) (subst (λ v. ReadsAt db m k (Ok v)) (sym same) reads) x)
 
-pub goes_call : {db : Db} {p : Rules} {m sheet argument depth used : ℕ} {q : Point} {turn : Turn} {sh a : ℕ} {last v : Reading}
-    → used < 31 → At db p m sheet argument depth used q → turn ≡ p.turn q → turn.ask ≡ Call sh a → sh < p.sheets → (depth ≡ 0 → ⊥)
-    → WorksOut db p m sh a (depth - 1) (Ok v) → last ≡ v → At db p m sheet argument depth (used + 1) (after turn q last)
-goes_call {db} {p} {m} {sheet} {argument} {depth} {used} {q} {turn} {sh} {a} {last} h at e is there some inner same =
+pub goes_call : {db : Db} {p : Rules} {m sheet argument depth left used : ℕ} {q : Point} {turn : Turn} {sh a : ℕ} {last v : Reading}
+    → used < 31 → At db p m sheet argument depth used q → turn ≡ p.turn q → turn.ask ≡ Call sh a → sh < p.sheets → depth ≡ suc left
+    → WorksOut db p m sh a left (Ok v) → last ≡ v → At db p m sheet argument depth (used + 1) (after turn q last)
+goes_call {db} {p} {m} {sheet} {argument} {depth} {left} {used} {q} {turn} {sh} {a} {last} h at e is there less inner same =
     goes_on db p m sheet argument depth used q turn last h e at
-    (λ result x. subst (λ d. Works db p m d (suc (suc (30 - used))) q result) (sym (below depth some))
-    (works.Works.call sh a last (asks e is) there (inner_works there (subst (λ v. WorksOut db p m sh a (depth - 1) (Ok v)) (sym same) inner))
-    (subst (λ d. Works db p m d (suc (30 - used)) (after (p.turn q) q last) result) (below depth some) x)))
+    (λ result x. subst (λ d. Works db p m d (suc (suc (30 - used))) q result) (sym less)
+    (works.Works.call sh a last (asks e is) there (inner_works there (subst (λ v. WorksOut db p m sh a left (Ok v)) (sym same) inner))
+    (subst (λ d. Works db p m d (suc (30 - used)) (after (p.turn q) q last) result) less x)))
 
 pub ends_last : {db : Db} {p : Rules} {m sheet argument depth used : ℕ} {q : Point} {turn : Turn} {result : Result Reading Fault}
     → 31 ≤ used → At db p m sheet argument depth used q → turn ≡ p.turn q → result ≡ last_answer turn.ask → WorksOut db p m sheet argument depth result

@@ -1,8 +1,8 @@
 // The value of a sheet, worked out over a database without a cache.
-ghost use Rattle.std.specs.Prelude.{◌≡◌, ◌<◌, ◌≤◌, IfOk, IfErr};
+ghost use Rattle.std.specs.Prelude.{◌≡◌, suc, ◌<◌, ◌≤◌, IfOk, IfErr};
 ghost use Rattle.recipe.specs.Recipes.{table_of};
 ghost use Rattle.terms.specs.Records.{known_table};
-ghost use Rattle.terms.specs.declared.fault.Fault.TheVariants.{SheetUnknown};
+ghost use Rattle.terms.specs.declared.fault.Fault.TheVariants.{SheetUnknown, TooDeep};
 ghost use Rattle.recipe.specs.Evaluations.{ReadsAt, last_answer, WorksOut, Evaluates};
 
 use crate::{Ask, Point, Recipe};
@@ -25,6 +25,14 @@ fn last_answer(ask: Ask) -> Result<Reading, Fault>
         Ask::Done { reading } => Ok(reading),
         _ => Err(Fault::NeverDone { frames: 0 }),
     }
+}
+
+// The depth that is left below a call.
+fn below(depth: usize) -> Result<usize, Fault>
+    ensures left { IfOk result (λ left. depth ≡ suc left) }
+    ensures deep { IfErr result (λ fault. depth ≡ 0 × fault ≡ TooDeep 0) }
+{
+    depth.checked_sub(1).ok_or(Fault::TooDeep { frames: 0 })
 }
 
 // A recipe over a database, at a moment.
@@ -71,10 +79,7 @@ impl<D: Database, R: Recipe> Evaluation<'_, D, R> {
                 Ask::Query { query } => self.read(query)?,
                 Ask::Call { sheet, argument } => {
                     self.known(sheet)?;
-                    if depth == 0 {
-                        return Err(Fault::TooDeep { frames: 0 });
-                    }
-                    self.sheet(sheet, argument, depth - 1)?
+                    self.sheet(sheet, argument, below(depth)?)?
                 }
             };
             point = Point {
