@@ -1,5 +1,6 @@
 -- Choosing the moment keeps what is carried.
 use Rattle.std.proofs.Common.{◌≡◌, ℕ, ◌+◌, ◌<◌, ◌≤◌, min, Bool, true, false, cond, not, ◌&&◌, ◌||◌, eqb, ◌⊎◌, List, [], ◌∷◌, map, Some, None, Option, sym, refl, ap, ◌∙◌, subst, inl, inr, ⊎_elim, arith}
+use Rattle.std.proofs.lemmas.Option.{same_Some}
 use Rattle.std.proofs.lemmas.Bool.Decides.{nat_tests}
 use Rattle.std.proofs.lemmas.Bool.{cases_Bool, both_ways, cond-true, cond-false, le-leb, and_from, and_parts, or_cases, or_right, or_left, eqb-true, eqb-false, eq-eqb, ne_eqb, cases_lt, not_from_false}
 use Rattle.std.proofs.lemmas.List.{map-append}
@@ -17,7 +18,7 @@ use Rattle.model.specs.Calls.{with_tx}
 use Rattle.model.specs.Traces.{Origin, Event, records_at}
 use Rattle.model.specs.Law.{holders}
 use Rattle.model.proofs.Moves.{claim_held}
-use Rattle.model.proofs.Cores.{TxGood, Core, core_change, core_tx, found, in_replaced, numbers_replaced, holders_replaced, holders_cons, bit}
+use Rattle.model.proofs.Cores.{among_by, TxGood, Core, core_change, core_tx, found, in_replaced, numbers_replaced, holders_replaced, holders_cons, bit}
 
 newest_from_among : (m : ℕ) (ms : List ℕ) → among (newest_from m ms) (m ∷ ms) ≡ true
 newest_from_among m [] = grind (arith, nat_tests)
@@ -30,17 +31,17 @@ newest_among [] m e = let z : ◌≡◌ {A = ℕ} 0 1 = cc in absurd (omega arit
 newest_among (n ∷ ms) m e = let is : newest_from n ms ≡ m = cc in ap (λ k. among k (n ∷ ms)) (sym is) ∙ newest_from_among n ms
 
 -- the moments of the pins after the latest was pinned
+pub moments_map : (f : Pin → Pin) (pins : List Pin) → ((pin : Pin) → (f pin).moment ≡ pin.moment) → moments (map f pins) ≡ moments pins
+moments_map f [] same = refl
+moments_map f (pin ∷ pins) same = ap (λ m. m ∷ moments (map f pins)) (same pin) ∙ ap (λ ms. pin.moment ∷ ms) (moments_map f pins same)
+
 renewed_moment : (L now : ℕ) (b : Bool) (pin : Pin) → (renewed L now b pin).moment ≡ pin.moment
 renewed_moment L now b pin = ⊎_elim (λ (e : eqb pin.moment L ≡ true). rw e (sym (eqb-true pin.moment L e))) (λ (e : eqb pin.moment L ≡ false). rw e refl) (cases_Bool (eqb pin.moment L))
-
-moments_renewed : (L now : ℕ) (b : Bool) (pins : List Pin) → moments (map (renewed L now b) pins) ≡ moments pins
-moments_renewed L now b [] = refl
-moments_renewed L now b (pin ∷ pins) = ap (λ m. m ∷ moments (map (renewed L now b) pins)) (renewed_moment L now b pin) ∙ ap (λ ms. pin.moment ∷ ms) (moments_renewed L now b pins)
 
 pub moments_with : (L now : ℕ) (b : Bool) (pins : List Pin) → moments (pins_with L now b pins) ≡ added L (moments pins)
 moments_with L now b pins =
     ⊎_elim
-    (λ (e : among L (moments pins) ≡ true). ap moments (cond-true (among L (moments pins)) _ _ e) ∙ moments_renewed L now b pins ∙ sym (cond-true (among L (moments pins)) _ _ e))
+    (λ (e : among L (moments pins) ≡ true). ap moments (cond-true (among L (moments pins)) _ _ e) ∙ moments_map (renewed L now b) pins (renewed_moment L now b) ∙ sym (cond-true (among L (moments pins)) _ _ e))
     (λ (e : among L (moments pins) ≡ false). ap moments (cond-false (among L (moments pins)) _ _ e) ∙ map-append (λ (pin : Pin). pin.moment) pins (record { moment = L; time = now; uses = 1 } ∷ []) ∙ sym (cond-false (among L (moments pins)) _ _ e))
     (cases_Bool (among L (moments pins)))
 
@@ -55,10 +56,6 @@ holders_none m (t ∷ txs) none =
     let c = holders_cons m t txs in
     let b : bit m t ≡ 0 = cond-false (among m t.holds) 1 0 (none t (inl refl)) in
     omega arith
-
-pub pin_moment : (pin : Pin) (pins : List Pin) → Among pin pins → among pin.moment (moments pins) ≡ true
-pin_moment pin [] a = absurd a
-pin_moment pin (x ∷ pins) a = ⊎_elim (λ e. or_left _ _ (eq-eqb pin.moment x.moment (ap (λ (y : Pin). y.moment) e))) (λ b. or_right _ _ (pin_moment pin pins b)) a
 
 -- the uses after the latest was pinned for a transaction
 bit_other : (m L : ℕ) (tx : Transaction) → (m ≡ L → ⊥) → bit m (with_latest L tx) ≡ bit m tx
@@ -96,7 +93,7 @@ with_uses L now pins txs tx is own uses holds pin a =
     (cases_Bool (eqb x.moment L))))
     (λ (out : among L (moments pins) ≡ false).
     ⊎_elim
-    (λ old. other pin old (λ e. both_ways (among L (moments pins)) out (ap (λ m. among m (moments pins)) (sym e) ∙ pin_moment pin pins old)))
+    (λ old. other pin old (λ e. both_ways (among L (moments pins)) out (ap (λ m. among m (moments pins)) (sym e) ∙ among_by (λ (y : Pin). y.moment) pin pins old)))
     (λ new.
     let fresh : Pin = record { moment = L; time = now; uses = 1 } in
     let none : (t : Transaction) → Among t txs → among L t.holds ≡ false =
@@ -139,9 +136,6 @@ holders_some m t (x ∷ txs) a b =
     ⊎_elim (λ e. let w : bit m x ≡ 1 = cond-true (among m x.holds) 1 0 (ap (λ (y : Transaction). among m y.holds) (sym e) ∙ b) in omega arith) (λ d. let ih = holders_some m t txs d b in omega arith) a
 
 -- the unused pin of lowest moment is an unused pin
-some_nat : (a b : ℕ) → Some a ≡ Some b → a ≡ b
-some_nat a b e = cc
-
 abbrev IsUnused : ℕ → List Pin → Type 0
 IsUnused u pins = (pin : Pin) × Among pin pins × (pin.moment ≡ u) × (is_unused pin ≡ true)
 
@@ -157,7 +151,7 @@ lowest_unused_is : (pins : List Pin) (u : ℕ) → lowest_unused pins ≡ Some u
 lowest_unused_is [] u e = let z : ◌≡◌ {A = ℕ} 0 1 = cc in absurd (omega arith)
 lowest_unused_is (pin ∷ pins) u e =
     ⊎_elim
-    (λ (free : is_unused pin ≡ true). lower_one pin pins (lowest_unused pins) u free (lowest_unused_is pins) (some_nat _ u (sym (cond-true (is_unused pin) _ _ free) ∙ e)))
+    (λ (free : is_unused pin ≡ true). lower_one pin pins (lowest_unused pins) u free (lowest_unused_is pins) (same_Some _ u (sym (cond-true (is_unused pin) _ _ free) ∙ e)))
     (λ (busy : is_unused pin ≡ false). let w = lowest_unused_is pins u (sym (cond-false (is_unused pin) _ _ busy) ∙ e) in (w.0, inr w.1, w.2, w.3))
     (cases_Bool (is_unused pin))
 

@@ -76,14 +76,7 @@ is32 None = false
 is32 (Some fault) = unheld fault
 
 abbrev says32 : Outcome → Bool
-says32 (Ok (Began number moments)) = false
-says32 (Ok (Read reading)) = false
-says32 (Ok Open) = false
-says32 (Ok (Committed moment)) = false
-says32 (Ok Aborted) = false
-says32 (Ok (Written moment)) = false
-says32 (Ok (Delivered moment)) = false
-says32 (Ok (Swept pins)) = false
+says32 (Ok reply) = false
 says32 (Err fault) = unheld fault
 
 branch : (b : Bool) (x y : Option Fault) → is32 x ≡ false → is32 y ≡ false → is32 (cond b x y) ≡ false

@@ -17,7 +17,7 @@ use Rattle.model.specs.Calls as calls
 use Rattle.model.specs.Traces.{Origin, Event, is_write, Lives}
 use Rattle.model.specs.Traces as traces
 use Rattle.model.specs.Law.{numbers, how_many, is_begin, is_commit, is_abort, is_open_in, starts, finishes}
-use Rattle.model.proofs.Cores.{Core, among_number, core_append, gives_nothing, found, numbers_replaced}
+use Rattle.model.proofs.Cores.{Core, among_by, core_append, gives_nothing, found, numbers_replaced}
 use Rattle.model.proofs.Asked.{hit_core, miss_core, queried_core, dropped_core, found_at, same_entries}
 use Rattle.model.proofs.Stepped.{step_query_core, step_hit_core, step_miss_core, step_done_core, step_last_core}
 use Rattle.model.proofs.Turns.{begin_core, end_core, write_core, deliver_core, sweep_core, numbers_removed}
@@ -114,7 +114,7 @@ counts_end : (h : List Event) (e : Event) (n : ℕ) (tx : Transaction) (txs : Li
 counts_end h e n tx txs ends no-begin one no_start fin apart is c =
     let own = found n txs tx is in
     let same = numbers_removed tx.number txs apart in
-    let there : among tx.number (numbers txs) ≡ true = among_number tx txs own.0 in
+    let there : among tx.number (numbers txs) ≡ true = among_by (λ (y : Transaction). y.number) tx txs own.0 in
     let fewer = length_without tx.number (numbers txs) apart there in
     let l' : length (removed tx.number txs) ≡ length (without tx.number (numbers txs)) = sym (length-map (removed tx.number txs) (λ (t : Transaction). t.number)) ∙ ap length same in
     let l = length-map txs (λ (t : Transaction). t.number) in

@@ -14,7 +14,7 @@ use Rattle.database.specs.Writes.{put, changed}
 use Rattle.database.specs.Databases.{Db, held, Sound, Written}
 use Rattle.database.proofs.Rows.{same_id}
 use Rattle.cache.specs.Lists.{Among}
-use Rattle.cache.proofs.Members.{among_left, among_right}
+use Rattle.cache.proofs.Members.{among_left, among_right, among_map}
 use Rattle.cache.specs.TagSets.{touched}
 use Rattle.recipe.specs.Recipes.{AgreeAll}
 use Rattle.model.specs.Books.{Part}
@@ -130,10 +130,6 @@ agree_trans : (tags : List Tag) (s y z : Records) → AgreeAll tags s y → Agre
 agree_trans [] s y z a b = tt
 agree_trans (tag ∷ tags) s y z a b = (λ t k e. a.0 t k e ∙ b.0 t k e, agree_trans tags s y z a.1 b.1)
 
-row_of : (n : ℕ) (cs : List Change) (c : Change) → Among c cs → Among (record { moment = n; tag = change_tag c }) (rows_of_write n cs)
-row_of n [] c a = absurd a
-row_of n (d ∷ cs) c a = ⊎_elim (λ is. inl (ap (λ (x : Change). record { moment = n; tag = change_tag x }) is)) (λ b. inr (row_of n cs c b)) a
-
 untouched_before : (o : Origin) (h : List Event) (e : Event) (a m : ℕ) (tags : List Tag) → is_write e.reply ≡ true → Untouched o (e ∷ h) a m tags → Untouched o h a m tags
 untouched_before o h e a m tags w u row in-it = u row (subst (Among row) (sym (rows_new o h e w)) (among_left row (rows_of o h) (rows_of_write (latest_of o h + 1) e.changes) in-it))
 
@@ -143,7 +139,7 @@ claim_at_new o h e tags (Ended end) l P w same wi re c = λ less. absurd (omega 
 claim_at_new o h e tags (Open t) l P w same wi re c = λ un z agree.
     let none : (d : Change) → Among d e.changes → touched (change_tag d) tags ≡ false =
     λ d a. ⊎_elim
-    (λ le. un (record { moment = latest_of o h + 1; tag = change_tag d }) (subst (Among (record { moment = latest_of o h + 1; tag = change_tag d })) (sym (rows_new o h e w)) (among_right _ (rows_of o h) (rows_of_write (latest_of o h + 1) e.changes) (row_of (latest_of o h + 1) e.changes d a))) (omega arith) (omega arith))
+    (λ le. un (record { moment = latest_of o h + 1; tag = change_tag d }) (subst (Among (record { moment = latest_of o h + 1; tag = change_tag d })) (sym (rows_new o h e w)) (among_right _ (rows_of o h) (rows_of_write (latest_of o h + 1) e.changes) (among_map (λ (x : Change). record { moment = latest_of o h + 1; tag = change_tag x }) d e.changes a))) (omega arith) (omega arith))
     (λ empty. ap (touched (change_tag d)) empty) re in
     let start = subst (λ k. AgreeAll tags (records_at o (e ∷ h) (k + 1)) z) same agree in
     let moved = subst (λ s. AgreeAll tags s z) (records_new o h e w) start in

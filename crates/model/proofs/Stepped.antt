@@ -1,5 +1,6 @@
 -- Steps keep what is carried.
 use Rattle.std.proofs.Common.{◌≡◌, ℕ, zero, suc, ◌+◌, ◌<◌, ◌≤◌, true, false, List, [], ◌∷◌, Some, None, Ok, Option, sym, refl, ap, ◌∙◌, subst, ⊎_elim, arith, lit<}
+use Rattle.std.proofs.lemmas.Option.{none-some, same_Some}
 use Rattle.std.proofs.lemmas.Bool.{cases_Bool, leb-true, leb-false, and_parts, or_left, eq-eqb}
 use Rattle.terms.specs.Records.{Reading}
 use Rattle.terms.specs.Intervals.{contains, reaches}
@@ -31,19 +32,19 @@ use Rattle.model.specs.Rules.{hit_part, answer_part}
 use Rattle.model.specs.Calls.{Given, of_query, of_sheet, with_tx, with_frames, key_of, went, handed, last_answer, entering}
 use Rattle.model.proofs.Claims.{claim_map}
 use Rattle.model.proofs.Parts.{hit_claim, hit_contains, answer_claim, enter_claim, Forward}
-use Rattle.model.proofs.Towers.{some_frame, none_frame, Stack, TowerTo, queried, called, done_gives, nth, stack_given, stack_opened, stack_done}
+use Rattle.model.proofs.Towers.{Stack, TowerTo, queried, called, done_gives, nth, stack_given, stack_opened, stack_done}
 use Rattle.model.proofs.Cores.{EntryGood, TxGood, Core, core_entries, found}
 use Rattle.model.proofs.Steps.{set_held, core_given, core_frames, find_replaced, replaced_again}
 use Rattle.model.proofs.Choosing.{core_pick}
-use Rattle.model.proofs.Asked.{no_given, one_given, among_of, found_at, same_entries, key_gives, whole_inside}
+use Rattle.model.proofs.Asked.{one_given, among_of, found_at, same_entries, key_gives, whole_inside}
 
 -- the frames, once the top one went on, have the parts that they had
 part_same : (P : Part → Type 0) (f f' : Frame) (fs : List Frame) → f'.part ≡ f.part → ((i : ℕ) (g : Frame) → nth i (f ∷ fs) ≡ Some g → P g.part) → (i : ℕ) (g : Frame) → nth i (f' ∷ fs) ≡ Some g → P g.part
-part_same P f f' fs same all zero g is = subst P (sym same ∙ ap (λ (x : Frame). x.part) (some_frame f' g is)) (all 0 f refl)
+part_same P f f' fs same all zero g is = subst P (sym same ∙ ap (λ (x : Frame). x.part) (same_Some f' g is)) (all 0 f refl)
 part_same P f f' fs same all (suc i) g is = all (suc i) g is
 
 sheet_same : (p : Rules) (f f' : Frame) (fs : List Frame) → (f'.point.sheet < p.sheets) × (f'.answers < 32) → ((i : ℕ) (g : Frame) → nth i (f ∷ fs) ≡ Some g → (g.point.sheet < p.sheets) × (g.answers < 32)) → (i : ℕ) (g : Frame) → nth i (f' ∷ fs) ≡ Some g → (g.point.sheet < p.sheets) × (g.answers < 32)
-sheet_same p f f' fs here all zero g is = subst (λ (x : Frame). (x.point.sheet < p.sheets) × (x.answers < 32)) (some_frame f' g is) here
+sheet_same p f f' fs here all zero g is = subst (λ (x : Frame). (x.point.sheet < p.sheets) × (x.answers < 32)) (same_Some f' g is) here
 sheet_same p f f' fs here all (suc i) g is = all (suc i) g is
 
 again : (f : Frame) → last_answer f ≡ false → f.answers + 1 < 32
@@ -106,7 +107,7 @@ step_hit_core p o h number now sheet argument hall tx frame frames entry entries
 
 -- a frame above the others
 above : (P : Frame → Type 0) (f : Frame) (fs : List Frame) → P f → ((i : ℕ) (g : Frame) → nth i fs ≡ Some g → P g) → (i : ℕ) (g : Frame) → nth i (f ∷ fs) ≡ Some g → P g
-above P f fs here all zero g is = subst P (some_frame f g is) here
+above P f fs here all zero g is = subst P (same_Some f g is) here
 above P f fs here all (suc i) g is = all i g is
 
 pub step_miss_core : (p : Rules) (o : Origin) (h : List Event) (number now sheet argument : ℕ) (hall : Hall) (tx : Transaction) (frame : Frame) (frames : List Frame) (entries : List Entry) → Core p o h hall
@@ -123,7 +124,7 @@ step_miss_core p o h number now sheet argument hall tx frame frames entries core
     (λ pr. above (λ g. g.part ≡ whole_part) (fresh_frame sheet argument) (f' ∷ frames) refl (part_same (λ part. part ≡ whole_part) frame f' frames refl (λ i g x. good.whole pr i g (to i g x))))
     (λ m a. above (λ g. contains g.part.interval m ≡ true) (fresh_frame sheet argument) (f' ∷ frames) (whole_inside p o h hall tx m core good a) (part_same (λ part. contains part.interval m ≡ true) frame f' frames refl (λ i g x. good.inside m a i g (to i g x))))
     (above (λ g. (g.point.sheet < p.sheets) × (g.answers < 32)) (fresh_frame sheet argument) (f' ∷ frames) (there, lit< tt) (sheet_same p frame f' frames ((good.sheets 0 frame (to 0 frame refl)).0, again frame last) (λ i g x. good.sheets i g (to i g x))))
-    refl (λ given now. no_given given now)
+    refl (λ given now. absurd (none-some given now))
 
 -- what is claimed of all moments holds of all records
 whole_all : (o : Origin) (h : List Event) (db : Db) (part : Part) (P : Records → Type 0) → part ≡ whole_part → Claim o h db part P → (z : Records) → P z
@@ -221,7 +222,7 @@ step_last_core p o h number now reading hall tx frame entries core is fr asked e
     let core₁ = core_entries p o h hall entries core (entered_good p o h hall frame reading entries (entering hall.books.delivered frame reading) core (forward p o h hall.db hall.books.pins hall.books.next tx 0 frame good (ap (nth 0) fr)) right.0 refl enters) in
     core_frames p o h (record { call = Step number now; changes = []; reply = Ok (Read reading); given = Some (record { number = number; question = of_sheet frame.point.sheet frame.point.argument; reading = reading }) })
     (record { db = hall.db; entries = entries; books = hall.books }) tx [] core₁ (found_at number hall.books.txs tx is)
-    (λ i g x. absurd (none_frame g x)) (λ pr i g x. absurd (none_frame g x)) (λ m a i g x. absurd (none_frame g x)) (λ i g x. absurd (none_frame g x)) refl
+    (λ i g x. absurd (none-some g x)) (λ pr i g x. absurd (none-some g x)) (λ m a i g x. absurd (none-some g x)) (λ i g x. absurd (none-some g x)) refl
     (λ given nw.
     let same = one_given (record { number = number; question = of_sheet frame.point.sheet frame.point.argument; reading = reading }) given nw in (
       ap (λ (x : Given). x.number) (sym same) ∙ sym own.1,

@@ -1,5 +1,6 @@
 -- Narrowing and choosing keep what is carried.
 use Rattle.std.proofs.Common.{◌≡◌, ℕ, ◌<◌, true, false, eqb, List, [], ◌∷◌, map, Some, filter, sym, refl, ap, ◌∙◌, subst, ⊎_elim}
+use Rattle.std.proofs.lemmas.Option.{none-some}
 use Rattle.std.proofs.lemmas.Bool.{cases_Bool, both_ways, cond-true, cond-false, and_from, and_parts, or_right, eq-eqb}
 use Rattle.terms.specs.Intervals.{contains}
 use Rattle.database.specs.Lists.{among, distinct}
@@ -14,7 +15,7 @@ use Rattle.model.specs.Traces.{Origin, Event, is_write, records_at}
 use Rattle.model.specs.Law.{Right}
 use Rattle.model.proofs.Claims.{Claim, claim_here, meet_contains}
 use Rattle.model.proofs.Towers.{Stack, nth, nth_cut}
-use Rattle.model.proofs.Cores.{none_tx, TxGood, Core, core_append, core_tx, found, numbers_replaced, only_one}
+use Rattle.model.proofs.Cores.{TxGood, Core, core_append, core_tx, found, numbers_replaced, only_one}
 
 -- a moment of a pin set is held
 pub set_held : (p : Rules) (o : Origin) (h : List Event) (hall : Hall) (tx : Transaction) (m : ℕ) → Core p o h hall → TxGood p o h hall.db hall.books.pins hall.books.next tx → among m tx.set ≡ true → held hall.db m ≡ true
@@ -49,7 +50,7 @@ some_given : (one other : Given) → Some one ≡ Some other → one ≡ other
 some_given one other e = cc
 
 pub find_replaced : (tx' : Transaction) (txs : List Transaction) (tx : Transaction) → find tx'.number txs ≡ Some tx → find tx'.number (replaced tx' txs) ≡ Some tx'
-find_replaced tx' [] tx e = absurd (none_tx tx e)
+find_replaced tx' [] tx e = absurd (none-some tx e)
 find_replaced tx' (x ∷ txs) tx e =
     ⊎_elim
     (λ (is : eqb tx'.number x.number ≡ true). ap (find tx'.number) (cond-true (eqb tx'.number x.number) (tx' ∷ txs) (x ∷ replaced tx' txs) is) ∙ cond-true (eqb tx'.number tx'.number) _ _ (eq-eqb tx'.number tx'.number refl))

@@ -1,5 +1,6 @@
 -- Begin, end, write, deliver and sweep keep what is carried.
 use Rattle.std.proofs.Common.{◌≡◌, ℕ, ◌+◌, ◌<◌, ◌≤◌, Bool, true, false, cond, not, ◌&&◌, ◌||◌, eqb, ltb, List, [], ◌∷◌, ◌++◌, map, Some, None, filter, Option, sym, refl, ap, ◌∙◌, subst, inl, inr, ⊎_elim, arith}
+use Rattle.std.proofs.lemmas.Option.{none-some}
 use Rattle.std.proofs.lemmas.Bool.{cases_Bool, both_ways, cond-true, cond-false, ltb-true, ltb-false, lt-ltb, le-ltb, and_from, and_parts, or_cases, or_right, or_left, or_from, eqb-true, eqb-false, eq-eqb, ne_eqb, not-true, not_from_true, not_from_false}
 use Rattle.database.specs.Lists.{among, distinct, without}
 use Rattle.database.specs.States.{Records}
@@ -26,19 +27,13 @@ use Rattle.model.specs.Calls.{gained, begun, after_begin, lost, after_end, rows_
 use Rattle.model.specs.Calls as calls
 use Rattle.model.proofs.Moves.{claim_write, records_before, records_new, rows_new}
 use Rattle.model.proofs.Parts.{held_past, entry_part, closed_all, comes_to_closed, deliver_claim}
-use Rattle.model.proofs.Towers.{none_frame}
-use Rattle.model.proofs.Cores.{EntryGood, TxGood, Core, core_entries, core_append, core_change, gives_nothing, found, holders_cons, holders_removed, bit}
+use Rattle.model.proofs.Cores.{among_by, EntryGood, TxGood, Core, core_entries, core_append, core_change, gives_nothing, found, holders_cons, holders_removed, bit}
 use Rattle.model.proofs.Steps.{set_held}
-use Rattle.model.proofs.Choosing.{pin_moment, holders_some}
-use Rattle.model.proofs.Asked.{no_given}
+use Rattle.model.proofs.Choosing.{moments_map, holders_some}
 
 -- begin
 gained_moment : (now limit : ℕ) (pin : Pin) → (gained now limit pin).moment ≡ pin.moment
 gained_moment now limit pin = ⊎_elim (λ (e : is_fresh now limit pin ≡ true). rw e refl) (λ (e : is_fresh now limit pin ≡ false). rw e refl) (cases_Bool (is_fresh now limit pin))
-
-moments_map : (f : Pin → Pin) (pins : List Pin) → ((pin : Pin) → (f pin).moment ≡ pin.moment) → moments (map f pins) ≡ moments pins
-moments_map f [] same = refl
-moments_map f (pin ∷ pins) same = ap (λ m. m ∷ moments (map f pins)) (same pin) ∙ ap (λ ms. pin.moment ∷ ms) (moments_map f pins same)
 
 -- the moments of some pins, each pin having a moment of its own
 some_moments : (f : Pin → Bool) (pins : List Pin) (m : ℕ) → among m (moments (filter f pins)) ≡ true → among m (moments pins) ≡ true
@@ -59,7 +54,7 @@ kept_moments f (x ∷ pins) pin d a =
     let gone : among x.moment (moments (filter f pins)) ≡ false = ⊎_elim (λ (e : among x.moment (moments (filter f pins)) ≡ true). absurd (both_ways (among x.moment (moments pins)) out (some_moments f pins x.moment e))) (λ (e : among x.moment (moments (filter f pins)) ≡ false). e) (cases_Bool (among x.moment (moments (filter f pins)))) in
     ap (λ k. among k (moments (filter f (x ∷ pins)))) m ∙ ⊎_elim (λ (e : f x ≡ true). rw e (or_left _ _ (eq-eqb x.moment x.moment refl))) (λ (e : f x ≡ false). rw e gone) (cases_Bool (f x)) ∙ ap f (sym top))
     (λ b. let ih = kept_moments f pins pin parts.1 b in
-    let ne : eqb pin.moment x.moment ≡ false = ne_eqb pin.moment x.moment (λ e. both_ways (among x.moment (moments pins)) out (ap (λ k. among k (moments pins)) (sym e) ∙ pin_moment pin pins b)) in
+    let ne : eqb pin.moment x.moment ≡ false = ne_eqb pin.moment x.moment (λ e. both_ways (among x.moment (moments pins)) out (ap (λ k. among k (moments pins)) (sym e) ∙ among_by (λ (y : Pin). y.moment) pin pins b)) in
     ⊎_elim (λ (e : f x ≡ true). rw e (ap (λ t. t || among pin.moment (moments (filter f pins))) ne ∙ ih)) (λ (e : f x ≡ false). rw e ih) (cases_Bool (f x)))
     a
 
@@ -127,11 +122,11 @@ begin_core p o h now limit hall e core w none =
             holds = λ m b. b;
             pinned = λ m b. ap (among m) same ∙ some_moments (is_fresh now limit) pins m b;
             some = λ pr. absurd (both_ways true pr refl);
-            whole = λ pr i g x. absurd (none_frame g x);
+            whole = λ pr i g x. absurd (none-some g x);
             free = λ pr given g is. let y = core.givens given g in absurd (omega arith);
-            inside = λ m b i g x. absurd (none_frame g x);
-            stack = λ i g x. absurd (none_frame g x);
-            sheets = λ i g x. absurd (none_frame g x);
+            inside = λ m b i g x. absurd (none-some g x);
+            stack = λ i g x. absurd (none-some g x);
+            sheets = λ i g x. absurd (none-some g x);
             right = λ given g is. let y = core.givens given g in absurd (omega arith);
           }))
           (λ old. older p o h hall.db pins (map (gained now limit) pins) books.next t same (core.txs t old)) a;
@@ -235,14 +230,14 @@ write_core p o h e moment hall db core sound w none wrote =
         pinned = good.pinned;
         some = good.some;
         whole = good.whole;
-        free = λ pr given g is. ⊎_elim (λ now. no_given given (sym none ∙ now)) (λ old. good.free pr given old is) g;
+        free = λ pr given g is. ⊎_elim (λ now. absurd (none-some given (sym none ∙ now))) (λ old. good.free pr given old is) g;
         inside = good.inside;
         stack = λ i g is. claim_write o h e hall.db db moment g.part _ w core.latest core.sound wrote (good.stack i g is);
         sheets = good.sheets;
-        right = λ given g is m b. ⊎_elim (λ now. no_given given (sym none ∙ now))
+        right = λ given g is m b. ⊎_elim (λ now. absurd (none-some given (sym none ∙ now)))
             (λ old. subst (λ s. Right p s given.question given.reading) (sym (records_before o h e m (let x = held_past hall.db m core.sound (set_held p o h hall t m core good b) in let y = core.latest in omega arith))) (good.right given old is m b)) g;
       };
-      givens = λ given g. ⊎_elim (λ now. no_given given (sym none ∙ now)) (λ old. core.givens given old) g;
+      givens = λ given g. ⊎_elim (λ now. absurd (none-some given (sym none ∙ now))) (λ old. core.givens given old) g;
     }
 
 -- a delivery
@@ -393,7 +388,7 @@ sweep_core p o h e now age hall db entries lowest core sound w none unpins drops
     let some = holders_some m t books.txs a b in
     let young : is_old now age x.0 ≡ false =
     ⊎_elim (λ (y : is_old now age x.0 ≡ true). let z = old_unused now age x.0 y in let v = ap (λ k. holders k books.txs) x.2 in absurd (omega arith)) (λ (y : is_old now age x.0 ≡ false). y) (cases_Bool (is_old now age x.0)) in
-    ap (λ k. among k (moments pins')) (sym x.2) ∙ pin_moment x.0 pins' (members.among_kept (λ pin. not (is_old now age pin)) x.0 pins x.1 (not_from_false _ young)))
+    ap (λ k. among k (moments pins')) (sym x.2) ∙ among_by (λ (y : Pin). y.moment) x.0 pins' (members.among_kept (λ pin. not (is_old now age pin)) x.0 pins x.1 (not_from_false _ young)))
     (λ t a. inr a) in
     let core₂ = core_entries p o h (record { db = db; entries = hall.entries; books = with_transactions pins' books.txs books }) entries core₁ (λ x a. core₁.entries x (drops.only x a).0) in
     core_append p o h e (record { db = db; entries = entries; books = with_transactions pins' books.txs books }) w (gives_nothing p o h e books.next books.txs none) core₂
