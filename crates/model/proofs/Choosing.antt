@@ -27,7 +27,7 @@ newest_from_among m (n ∷ ms) =
     ⊎_elim (λ less. let e : newest_from m (n ∷ ms) ≡ newest_from n ms = omega arith in or_right _ _ (ap (λ k. among k (n ∷ ms)) e ∙ ih)) (λ le. let e : newest_from m (n ∷ ms) ≡ m = omega arith in or_left _ _ (eq-eqb _ m e)) (cases_lt m (newest_from n ms))
 
 pub newest_among : (ms : List ℕ) (m : ℕ) → newest_of ms ≡ Some m → among m ms ≡ true
-newest_among [] m e = let z : ◌≡◌ {A = ℕ} 0 1 = cc in absurd (omega arith)
+newest_among [] m e = cc
 newest_among (n ∷ ms) m e = let is : newest_from n ms ≡ m = cc in ap (λ k. among k (n ∷ ms)) (sym is) ∙ newest_from_among n ms
 
 -- the moments of the pins after the latest was pinned
@@ -36,7 +36,7 @@ moments_map f [] same = refl
 moments_map f (pin ∷ pins) same = ap (λ m. m ∷ moments (map f pins)) (same pin) ∙ ap (λ ms. pin.moment ∷ ms) (moments_map f pins same)
 
 renewed_moment : (L now : ℕ) (b : Bool) (pin : Pin) → (renewed L now b pin).moment ≡ pin.moment
-renewed_moment L now b pin = ⊎_elim (λ (e : eqb pin.moment L ≡ true). rw e (sym (eqb-true pin.moment L e))) (λ (e : eqb pin.moment L ≡ false). rw e refl) (cases_Bool (eqb pin.moment L))
+renewed_moment L now b pin = grind (arith, nat_tests)
 
 pub moments_with : (L now : ℕ) (b : Bool) (pins : List Pin) → moments (pins_with L now b pins) ≡ added L (moments pins)
 moments_with L now b pins =
@@ -46,7 +46,7 @@ moments_with L now b pins =
     (cases_Bool (among L (moments pins)))
 
 distinct_added : (L : ℕ) (ms : List ℕ) → distinct ms ≡ true → distinct (added L ms) ≡ true
-distinct_added L ms d = ⊎_elim (λ (e : among L ms ≡ true). rw e d) (λ (e : among L ms ≡ false). rw e (distinct_push L ms d e)) (cases_Bool (among L ms))
+distinct_added L ms d = grind (arith, nat_tests, distinct_push)
 
 -- a moment that no transaction holds
 pub holders_none : (m : ℕ) (txs : List Transaction) → ((t : Transaction) → Among t txs → among m t.holds ≡ false) → holders m txs ≡ 0
@@ -148,7 +148,7 @@ lower_one pin pins (Some v) u free more is =
     (cases_lt pin.moment v)
 
 lowest_unused_is : (pins : List Pin) (u : ℕ) → lowest_unused pins ≡ Some u → IsUnused u pins
-lowest_unused_is [] u e = let z : ◌≡◌ {A = ℕ} 0 1 = cc in absurd (omega arith)
+lowest_unused_is [] u e = cc
 lowest_unused_is (pin ∷ pins) u e =
     ⊎_elim
     (λ (free : is_unused pin ≡ true). lower_one pin pins (lowest_unused pins) u free (lowest_unused_is pins) (same_Some _ u (sym (cond-true (is_unused pin) _ _ free) ∙ e)))

@@ -1,6 +1,7 @@
 -- What is carried from call to call.
 use Rattle.std.proofs.Common.{◌≡◌, ℕ, ◌+◌, ◌<◌, ◌≤◌, true, false, cond, eqb, ltb, ◌⊎◌, List, [], ◌∷◌, map, Some, None, filter, sym, refl, ap, ◌∙◌, subst, inl, inr, ⊎_elim, arith}
 use Rattle.std.proofs.lemmas.Option.{none-some, same_Some}
+use Rattle.std.proofs.lemmas.Bool.Decides.{nat_tests}
 use Rattle.std.proofs.lemmas.Bool.{cases_Bool, both_ways, cond-true, cond-false, and_parts, or_right, or_left, eqb-true, eqb-false, eq-eqb, not-true}
 use Rattle.terms.specs.Intervals.{contains}
 use Rattle.database.specs.Lists.{among, distinct}
@@ -203,7 +204,7 @@ abbrev pub bit : ℕ → Transaction → ℕ
 bit m tx = cond (among m tx.holds) 1 0
 
 pub holders_cons : (m : ℕ) (tx : Transaction) (txs : List Transaction) → holders m (tx ∷ txs) ≡ bit m tx + holders m txs
-holders_cons m tx txs = ⊎_elim (λ (e : among m tx.holds ≡ true). rw e (omega arith)) (λ (e : among m tx.holds ≡ false). rw e (omega arith)) (cases_Bool (among m tx.holds))
+holders_cons m tx txs = grind (arith, nat_tests)
 
 pub holders_replaced : (m : ℕ) (tx tx' : Transaction) (txs : List Transaction) → find tx'.number txs ≡ Some tx → holders m (replaced tx' txs) + bit m tx ≡ holders m txs + bit m tx'
 holders_replaced m tx tx' [] e = absurd (none-some tx e)

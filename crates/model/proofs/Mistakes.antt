@@ -242,7 +242,7 @@ since = changed arrival origin.records
 has_bag : Gives attendant since 0 900 None → ⊥
 has_bag given =
     let is : ◌≡◌ {A = Reading} None (Some (1, 5)) = value_is_one attendant since 0 900 None (Some (1, 5)) given (0, claim_gives since 900) in
-    let z : ◌≡◌ {A = ℕ} 0 1 = cc in omega arith
+    cc
 
 -- transaction 2 is told at 11 that there is none
 no_bag_stands : {mistake : Mistake} (trace : List Event) (entries : List Entry) (T : ℕ) (rest : List Row)

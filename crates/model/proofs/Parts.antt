@@ -67,7 +67,7 @@ same_through T S (Ended e) f = refl
 same_through T S (Open t) f = ap (λ (n : ℕ). Open n) (f t refl)
 
 covered_through : (T first m : ℕ) (u : Until) (t : ℕ) → u ≡ Open t → first ≤ m → known_at T u m ≡ true → max T first ≡ T
-covered_through T first m (Ended e) t is l k = let z : ◌≡◌ {A = ℕ} 0 1 = cc in omega arith
+covered_through T first m (Ended e) t is l k = cc
 covered_through T first m (Open t) s is l k = let x = leb-true m T k in omega arith
 
 pub hit_claim : (o : Origin) (h : List Event) (db : Db) (T m : ℕ) (e : Entry) (P : Records → Type 0) → covers T e m ≡ true → Claim o h db (entry_part T e) P → Claim o h db (hit_part T e) P

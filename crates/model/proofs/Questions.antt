@@ -152,20 +152,17 @@ rooted p o h hall (traces.Lives.then trace before after event lives does sound) 
 abbrev given_as : ℕ → Question → Reading → Given
 given_as n question reading = record { number = n; question = question; reading = reading }
 
-same_given : (number n : ℕ) (q w : Question) (r s : Reading) → number ≡ n → q ≡ w → r ≡ s → Some (given_as number q r) ≡ Some (given_as n w s)
-same_given number n q w r s a b c = ap (λ x. Some (given_as x q r)) a ∙ ap (λ x. Some (given_as n x r)) b ∙ ap (λ x. Some (given_as n w x)) c
-
 does_answered : (p : Rules) (h : List Event) (hall hall' : Hall) (call : Call) (changes : List Change) (reply : Outcome) (given : Option Given) (n : ℕ) (question : Question) (answer : Reading) → Does p hall call changes reply given hall' → Rooted h hall.books.txs
     → is_by n call ≡ true → reply ≡ Ok (Read answer) → last_asked n (record { call = call; changes = changes; reply = reply; given = given } ∷ h) ≡ Some question → given ≡ Some (given_as n question answer)
 does_answered p h hall hall' call changes reply given n question answer (calls.Does.refused cl cs fault is) rooted by told last = cc
 does_answered p h hall hall' call changes reply given n question answer (calls.Does.began now limit is) rooted by told last = cc
 does_answered p h hall hall' call changes reply given n question answer (calls.Does.hit number sheet argument tx entry entries is shut there looks same) rooted by told last =
     let its = eqb-true n number by in
-    same_given number n _ question entry.reading answer (sym its) (same_Some _ question (sym (asks_own n number (of_sheet sheet argument) (last_asked n h) its) ∙ last)) (cc)
+    let asked = same_Some _ question (sym (asks_own n number (of_sheet sheet argument) (last_asked n h) its) ∙ last) in cc
 does_answered p h hall hall' call changes reply given n question answer (calls.Does.miss number sheet argument tx entries is shut there looks same) rooted by told last = cc
 does_answered p h hall hall' call changes reply given n question answer (calls.Does.queried number now m query tx tx' db pins answered is shut known picks asks) rooted by told last =
     let its = eqb-true n number by in
-    same_given number n _ question answered.reading answer (sym its) (same_Some _ question (sym (asks_own n number (of_query query) (last_asked n h) its) ∙ last)) (cc)
+    let asked = same_Some _ question (sym (asks_own n number (of_query query) (last_asked n h) its) ∙ last) in cc
 does_answered p h hall hall' call changes reply given n question answer (calls.Does.query_no_pin number now query tx is shut known none) rooted by told last = cc
 does_answered p h hall hall' call changes reply given n question answer (calls.Does.query_not_held number now m query tx is shut known picks out) rooted by told last = cc
 does_answered p h hall hall' call changes reply given n question answer (calls.Does.never_done number now tx frame frames is fr latest not_done) rooted by told last = cc
@@ -182,7 +179,7 @@ does_answered p h hall hall' call changes reply given n question answer (calls.D
     let its = eqb-true n number by in
     let own = found number hall.books.txs tx is in
     let asked-for : last_asked n h ≡ Some (of_sheet frame.point.sheet frame.point.argument) = ap (λ k. last_asked k h) (its ∙ sym own.1) ∙ rooted.roots tx own.0 _ (ap root fr) in
-    same_given number n _ question reading answer (sym its) (same_Some _ question (sym asked-for ∙ last)) (cc)
+    let asked = same_Some _ question (sym asked-for ∙ last) in cc
 does_answered p h hall hall' call changes reply given n question answer (calls.Does.committed number tx is) rooted by told last = cc
 does_answered p h hall hall' call changes reply given n question answer (calls.Does.aborted number tx is) rooted by told last = cc
 does_answered p h hall hall' call changes reply given n question answer (calls.Does.wrote cs moment db is written) rooted by told last = cc

@@ -137,7 +137,7 @@ going_one : (one other : ℕ) → Going one ≡ Going other → one ≡ other
 going_one one other e = cc
 
 reaches_going : (u : Until) (t m : ℕ) → u ≡ Going t → reaches u m ≡ true → m ≤ t
-reaches_going (Ended x) t m e r = let z : ◌≡◌ {A = ℕ} 0 1 = cc in absurd (omega arith)
+reaches_going (Ended x) t m e r = cc
 reaches_going (Going s) t m e r = let l = leb-true m s r in let same = going_one s t e in omega arith
 
 forward : (p : Rules) (o : Origin) (h : List Event) (db : Db) (pins : List Pin) (next : ℕ) (tx : Transaction) (i : ℕ) (g : Frame) → TxGood p o h db pins next tx → nth i tx.frames ≡ Some g → Forward g.part

@@ -1,6 +1,7 @@
 -- Begin, end, write, deliver and sweep keep what is carried.
 use Rattle.std.proofs.Common.{◌≡◌, ℕ, ◌+◌, ◌<◌, ◌≤◌, Bool, true, false, cond, not, ◌&&◌, ◌||◌, eqb, ltb, List, [], ◌∷◌, ◌++◌, map, Some, None, filter, Option, sym, refl, ap, ◌∙◌, subst, inl, inr, ⊎_elim, arith}
 use Rattle.std.proofs.lemmas.Option.{none-some}
+use Rattle.std.proofs.lemmas.Bool.Decides.{nat_tests}
 use Rattle.std.proofs.lemmas.Bool.{cases_Bool, both_ways, cond-true, cond-false, ltb-true, ltb-false, lt-ltb, le-ltb, and_from, and_parts, or_cases, or_right, or_left, or_from, eqb-true, eqb-false, eq-eqb, ne_eqb, not-true, not_from_true, not_from_false}
 use Rattle.database.specs.Lists.{among, distinct, without}
 use Rattle.database.specs.States.{Records}
@@ -33,7 +34,7 @@ use Rattle.model.proofs.Choosing.{moments_map, holders_some}
 
 -- begin
 gained_moment : (now limit : ℕ) (pin : Pin) → (gained now limit pin).moment ≡ pin.moment
-gained_moment now limit pin = ⊎_elim (λ (e : is_fresh now limit pin ≡ true). rw e refl) (λ (e : is_fresh now limit pin ≡ false). rw e refl) (cases_Bool (is_fresh now limit pin))
+gained_moment now limit pin = grind (arith, nat_tests)
 
 -- the moments of some pins, each pin having a moment of its own
 some_moments : (f : Pin → Bool) (pins : List Pin) (m : ℕ) → among m (moments (filter f pins)) ≡ true → among m (moments pins) ≡ true
@@ -159,7 +160,7 @@ numbers_removed n (x ∷ txs) d =
     (cases_Bool (eqb n x.number))
 
 lost_moment : (ms : List ℕ) (pin : Pin) → (lost ms pin).moment ≡ pin.moment
-lost_moment ms pin = ⊎_elim (λ (e : among pin.moment ms ≡ true). rw e refl) (λ (e : among pin.moment ms ≡ false). rw e refl) (cases_Bool (among pin.moment ms))
+lost_moment ms pin = grind (arith, nat_tests)
 
 pub end_core : (p : Rules) (o : Origin) (h : List Event) (number : ℕ) (hall : Hall) (tx : Transaction) (e : Event) → Core p o h hall → find number hall.books.txs ≡ Some tx → is_write e.reply ≡ false → e.given ≡ None
     → Core p o (e ∷ h) (record { db = hall.db; entries = hall.entries; books = after_end tx hall.books })

@@ -11,13 +11,13 @@ use Rattle.recipe.specs.declared.Ask.TheVariants.{Query as Asked, Call, Done}
 use Rattle.recipe.specs.Recipes.{Rules, start, after, Runs, done, query, call, AgreeAll, ValueIsOne, ValueRests}
 
 pub clash_done : {x : Ask} {k : Query} {r : Reading} → x ≡ Asked k → x ≡ Done r → ⊥
-clash_done a b = let z : ◌≡◌ {A = ℕ} 0 1 = cc in omega arith
+clash_done a b = cc
 
 pub clash_call : {x : Ask} {sh a : ℕ} {r : Reading} → x ≡ Call sh a → x ≡ Done r → ⊥
-clash_call a b = let z : ◌≡◌ {A = ℕ} 0 1 = cc in omega arith
+clash_call a b = cc
 
 pub clash_query : {x : Ask} {sh a : ℕ} {k : Query} → x ≡ Call sh a → x ≡ Asked k → ⊥
-clash_query a b = let z : ◌≡◌ {A = ℕ} 0 1 = cc in omega arith
+clash_query a b = cc
 
 pub done_one : {x : Ask} {r w : Reading} → x ≡ Done r → x ≡ Done w → r ≡ w
 done_one a b = cc

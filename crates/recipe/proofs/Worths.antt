@@ -69,7 +69,7 @@ worth_of db p m sheet argument depth Q (Err fault) means wrong = wrong
 
 -- the claim sheet
 narrow_is : (door word : ℕ) → Some door ≡ narrow word → door ≡ word
-narrow_is door word e = ⊎_elim (λ (t : ltb word 4294967296 ≡ true). let f : narrow word ≡ Some word = cond-true (ltb word 4294967296) _ _ t in cc) (λ (t : ltb word 4294967296 ≡ false). let f : narrow word ≡ None = cond-false (ltb word 4294967296) _ _ t in let z : ◌≡◌ {A = ℕ} 0 1 = cc in omega arith) (cases_Bool (ltb word 4294967296))
+narrow_is door word e = ⊎_elim (λ (t : ltb word 4294967296 ≡ true). let f : narrow word ≡ Some word = cond-true (ltb word 4294967296) _ _ t in cc) (λ (t : ltb word 4294967296 ≡ false). let f : narrow word ≡ None = cond-false (ltb word 4294967296) _ _ t in cc) (cases_Bool (ltb word 4294967296))
 
 door_is : (ticket door : ℕ) (value : Option Value) → claimed ticket (Some door) (shown value) ≡ claim_of_door ticket door value
 door_is ticket door None = refl
