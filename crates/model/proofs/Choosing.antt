@@ -59,10 +59,10 @@ holders_none m (t ∷ txs) none =
 
 -- the uses after the latest was pinned for a transaction
 bit_other : (m L : ℕ) (tx : Transaction) → (m ≡ L → ⊥) → bit m (with_latest L tx) ≡ bit m tx
-bit_other m L tx ne = ap (λ b. cond {A = ℕ} b 1 0) (among_added m L tx.holds ∙ ap (λ b. b || among m tx.holds) (ne_eqb m L ne))
+bit_other m L tx ne = let e = among_added m L tx.holds in grind (arith, nat_tests)
 
 bit_latest : (L : ℕ) (tx : Transaction) → bit L (with_latest L tx) ≡ 1
-bit_latest L tx = ap (λ b. cond {A = ℕ} b 1 0) (among_added L L tx.holds ∙ or_left _ _ (eq-eqb L L refl))
+bit_latest L tx = let e = among_added L L tx.holds in grind (arith, nat_tests)
 
 with_uses : (L now : ℕ) (pins : List Pin) (txs : List Transaction) (tx : Transaction) → find tx.number txs ≡ Some tx → Among tx txs
     → ((pin : Pin) → Among pin pins → pin.uses ≡ holders pin.moment txs)
@@ -157,11 +157,7 @@ lowest_unused_is (pin ∷ pins) u e =
 
 moments_without : (u : ℕ) (pins : List Pin) → moments (without_pin u pins) ≡ without u (moments pins)
 moments_without u [] = refl
-moments_without u (pin ∷ pins) =
-    ⊎_elim
-    (λ (e : eqb pin.moment u ≡ true). rw e (moments_without u pins))
-    (λ (e : eqb pin.moment u ≡ false). rw e (ap (λ ms. pin.moment ∷ ms) (moments_without u pins)))
-    (cases_Bool (eqb pin.moment u))
+moments_without u (pin ∷ pins) = let ih = moments_without u pins in grind (arith, nat_tests)
 
 -- what choosing leaves
 pub record Picked (p : Rules) (o : Origin) (h : List Event) (hall : Hall) (tx : Transaction) (m : ℕ) (db' : Db) (pins' : List Pin) (tx' : Transaction) : Type 0 where

@@ -1,5 +1,6 @@
 -- What an interval with tags claims of the records of its moments, and how claims are kept, joined and used.
 use Rattle.std.proofs.Common.{◌≡◌, ℕ, ◌+◌, ◌<◌, ◌≤◌, min, max, Bool, true, false, cond, ◌||◌, leb, ◌⊎◌, List, [], ◌∷◌, ◌++◌, length, Some, None, Option, sym, refl, ap, ◌∙◌, subst, inl, inr, ⊎_elim, arith}
+use Rattle.std.proofs.lemmas.Bool.Decides.{nat_tests}
 use Rattle.std.proofs.lemmas.Bool.{cases_Bool, both_ways, leb-true, leb-false, le-leb, ltb-true, lt-ltb, and_from, and_parts, or_cases, or_from, or_parts, eqb-true}
 use Rattle.terms.specs.declared.interval.Until.{Until}
 use Rattle.terms.specs.declared.interval.Until.TheVariants.{Ended, Open}
@@ -78,9 +79,7 @@ touched_append tag (x ∷ xs) ys = let ih = touched_append tag xs ys in grind ar
 
 touched_has : (tag y : Tag) (xs : List Tag) → has_tag y xs ≡ true → touched tag xs ≡ false → touches tag y ≡ false
 touched_has tag y [] has e = absurd (both_ways _ refl has)
-touched_has tag y (x ∷ xs) has e =
-    let parts = or_parts _ _ e in
-    ⊎_elim (λ t. ap (touches tag) (same_tag y x t) ∙ parts.0) (λ t. touched_has tag y xs t parts.1) (or_cases _ _ has)
+touched_has tag y (x ∷ xs) has e = let ih = touched_has tag y xs in let same = same_tag y x in grind (arith, nat_tests)
 
 -- what is not touched with more tags is not with fewer
 join_left : (tag : Tag) (xs ys : List Tag) → touched tag (join_tags xs ys) ≡ false → touched tag xs ≡ false
@@ -174,7 +173,7 @@ claim_meet o h db a b P Q c d = record {
 
 -- a moment of both parts is one of what they have in common
 fits_reaches : (xs : List Tag) (t m : ℕ) → m ≤ t → reaches (fitting (Open t) xs) m ≡ true
-fits_reaches xs t m l = ⊎_elim (λ (e : leb (length xs) 8 ≡ true). rw e (le-leb m t l)) (λ (e : leb (length xs) 8 ≡ false). rw e (lt-ltb m (t + 1) (omega arith))) (cases_Bool (leb (length xs) 8))
+fits_reaches xs t m l = grind (arith, nat_tests)
 
 meet_reaches : (xs : List Tag) (a b : Until) (m : ℕ) → reaches a m ≡ true → reaches b m ≡ true → reaches (fitting (meet_until a b) xs) m ≡ true
 meet_reaches xs (Open t) (Open u) m r q = let x = leb-true m t r in let y = leb-true m u q in fits_reaches xs (min t u) m (omega arith)

@@ -88,11 +88,7 @@ in_replaced tx' (x ∷ txs) t a =
 
 pub numbers_replaced : (tx' : Transaction) (txs : List Transaction) → numbers (replaced tx' txs) ≡ numbers txs
 numbers_replaced tx' [] = refl
-numbers_replaced tx' (x ∷ txs) =
-    ⊎_elim
-    (λ (is : eqb tx'.number x.number ≡ true). ap numbers (cond-true (eqb tx'.number x.number) _ _ is) ∙ ap (λ n. n ∷ numbers txs) (eqb-true tx'.number x.number is))
-    (λ (is : eqb tx'.number x.number ≡ false). ap numbers (cond-false (eqb tx'.number x.number) _ _ is) ∙ ap (λ ns. x.number ∷ ns) (numbers_replaced tx' txs))
-    (cases_Bool (eqb tx'.number x.number))
+numbers_replaced tx' (x ∷ txs) = let ih = numbers_replaced tx' txs in grind (arith, nat_tests)
 
 -- an element's number is among the numbers of the list
 pub among_by : {X : Type 0} (f : X → ℕ) (x : X) (xs : List X) → Among x xs → among (f x) (map f xs) ≡ true

@@ -99,9 +99,7 @@ keys_sym (Some a) None = refl
 keys_sym (Some a) (Some b) = grind (arith, nat_tests)
 
 touch_sym : (one other : Tag) → touches one other ≡ touches other one
-touch_sym one other =
-    let tables : eqb one.table other.table ≡ eqb other.table one.table = grind (arith, nat_tests) in
-    ap (λ b. b && keys_touch one.key other.key) tables ∙ ap (λ b. eqb other.table one.table && b) (keys_sym one.key other.key)
+touch_sym one other = let keys = keys_sym one.key other.key in grind (arith, nat_tests)
 
 put_agree : (c : Change) (tag : Tag) (s : Records) → touches (change_tag c) tag ≡ false → Agree tag s (put c s)
 put_agree c tag s no_touch t k e =

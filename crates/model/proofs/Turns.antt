@@ -39,11 +39,7 @@ gained_moment now limit pin = grind (arith, nat_tests)
 -- the moments of some pins, each pin having a moment of its own
 some_moments : (f : Pin → Bool) (pins : List Pin) (m : ℕ) → among m (moments (filter f pins)) ≡ true → among m (moments pins) ≡ true
 some_moments f [] m a = a
-some_moments f (pin ∷ pins) m a =
-    ⊎_elim
-    (λ (e : f pin ≡ true). ⊎_elim (or_left _ _) (λ b. or_right _ _ (some_moments f pins m b)) (or_cases _ _ (ap (λ b. among m (moments (cond b (pin ∷ filter f pins) (filter f pins)))) (sym e) ∙ a)))
-    (λ (e : f pin ≡ false). or_right _ _ (some_moments f pins m (ap (λ b. among m (moments (cond b (pin ∷ filter f pins) (filter f pins)))) (sym e) ∙ a)))
-    (cases_Bool (f pin))
+some_moments f (pin ∷ pins) m a = let ih = some_moments f pins m in grind (arith, nat_tests)
 
 kept_moments : (f : Pin → Bool) (pins : List Pin) (pin : Pin) → distinct (moments pins) ≡ true → Among pin pins → among pin.moment (moments (filter f pins)) ≡ f pin
 kept_moments f [] pin d a = absurd a
@@ -61,12 +57,7 @@ kept_moments f (x ∷ pins) pin d a =
 
 distinct_some : (f : Pin → Bool) (pins : List Pin) → distinct (moments pins) ≡ true → distinct (moments (filter f pins)) ≡ true
 distinct_some f [] d = refl
-distinct_some f (x ∷ pins) d =
-    let parts = and_parts _ _ d in
-    let out : among x.moment (moments pins) ≡ false = not-true _ parts.0 in
-    let ih = distinct_some f pins parts.1 in
-    let gone : among x.moment (moments (filter f pins)) ≡ false = ⊎_elim (λ (e : among x.moment (moments (filter f pins)) ≡ true). absurd (both_ways (among x.moment (moments pins)) out (some_moments f pins x.moment e))) (λ (e : among x.moment (moments (filter f pins)) ≡ false). e) (cases_Bool (among x.moment (moments (filter f pins)))) in
-    ⊎_elim (λ (e : f x ≡ true). rw e (and_from _ _ (not_from_false _ gone) ih)) (λ (e : f x ≡ false). rw e ih) (cases_Bool (f x))
+distinct_some f (x ∷ pins) d = let ih = distinct_some f pins in let some = some_moments f pins x.moment in grind (arith, nat_tests)
 
 young_numbers : (next : ℕ) (txs : List Transaction) → ((t : Transaction) → Among t txs → t.number < next) → among next (numbers txs) ≡ false
 young_numbers next [] all = refl
@@ -146,18 +137,7 @@ in_removed n (x ∷ txs) t a =
 
 pub numbers_removed : (n : ℕ) (txs : List Transaction) → distinct (numbers txs) ≡ true → numbers (removed n txs) ≡ without n (numbers txs)
 numbers_removed n [] d = refl
-numbers_removed n (x ∷ txs) d =
-    let parts = and_parts _ _ d in
-    ⊎_elim
-    (λ (e : eqb n x.number ≡ true).
-    let is = eqb-true n x.number e in
-    let out : among n (numbers txs) ≡ false = ap (λ k. among k (numbers txs)) is ∙ not-true _ parts.0 in
-    let f : eqb x.number n ≡ true = eq-eqb x.number n (sym is) in
-    ap numbers (cond-true (eqb n x.number) _ _ e) ∙ sym (among_none n (numbers txs) out) ∙ sym (cond-false (not (eqb x.number n)) _ _ (not_from_true _ f)))
-    (λ (e : eqb n x.number ≡ false).
-    let f : eqb x.number n ≡ false = ne_eqb x.number n (λ is. eqb-false n x.number e (sym is)) in
-    ap numbers (cond-false (eqb n x.number) _ _ e) ∙ ap (λ ns. x.number ∷ ns) (numbers_removed n txs parts.1) ∙ sym (cond-true (not (eqb x.number n)) _ _ (not_from_false _ f)))
-    (cases_Bool (eqb n x.number))
+numbers_removed n (x ∷ txs) d = let ih = numbers_removed n txs in let none = among_none n (numbers txs) in grind (arith, nat_tests)
 
 lost_moment : (ms : List ℕ) (pin : Pin) → (lost ms pin).moment ≡ pin.moment
 lost_moment ms pin = grind (arith, nat_tests)
