@@ -23,7 +23,7 @@ use Rattle.cache.specs.Calls.{Looks}
 use Rattle.model.specs.declared.call.Call.TheVariants.{Sheet, Query as Directly}
 use Rattle.model.specs.declared.call.Reply.TheVariants.{Read, Open}
 use Rattle.model.specs.Rules.{hit_part, answer_part}
-use Rattle.model.specs.Calls.{Given, of_query, of_sheet, with_tx, with_frames, has_frames, key_of, dropped}
+use Rattle.model.specs.Calls.{of_query, of_sheet, with_tx, with_frames, has_frames, key_of, dropped}
 use Rattle.model.proofs.Parts.{held_past, hit_claim, hit_contains, answer_claim}
 use Rattle.model.proofs.Towers.{TowerTo, here, nth, nth_cut, whole_claim}
 use Rattle.model.proofs.Cores.{TxGood, Core, core_entries, found}
@@ -40,9 +40,6 @@ nth_none i fs g none is = none-some g (ap (nth i) (sym none) ∙ is)
 pub among_of : (m : ℕ) (ms : List ℕ) → Among m ms → among m ms ≡ true
 among_of m [] a = absurd a
 among_of m (n ∷ ms) a = ⊎_elim (λ e. or_left _ _ (eq-eqb m n e)) (λ b. or_right _ _ (among_of m ms b)) a
-
-pub one_given : (one other : Given) → Some one ≡ Some other → one ≡ other
-one_given one other e = cc
 
 -- the transaction with the number that was asked for
 pub found_at : (n : ℕ) (txs : List Transaction) (tx : Transaction) → find n txs ≡ Some tx → find tx.number txs ≡ Some tx

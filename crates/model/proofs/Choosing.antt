@@ -1,5 +1,5 @@
 -- Choosing the moment keeps what is carried.
-use Rattle.std.proofs.Common.{◌≡◌, ℕ, ◌+◌, ◌<◌, ◌≤◌, min, Bool, true, false, cond, not, ◌&&◌, ◌||◌, eqb, ◌⊎◌, List, [], ◌∷◌, map, Some, None, Option, sym, refl, ap, ◌∙◌, subst, inl, inr, ⊎_elim, arith}
+use Rattle.std.proofs.Common.{◌≡◌, ℕ, ◌+◌, ◌<◌, ◌≤◌, min, Bool, true, false, not, ◌&&◌, ◌||◌, eqb, ◌⊎◌, List, [], ◌∷◌, map, Some, None, Option, sym, refl, ap, ◌∙◌, subst, inl, inr, ⊎_elim, arith}
 use Rattle.std.proofs.lemmas.Option.{same_Some}
 use Rattle.std.proofs.lemmas.Bool.Decides.{nat_tests}
 use Rattle.std.proofs.lemmas.Bool.{cases_Bool, both_ways, cond-true, cond-false, le-leb, and_from, and_parts, or_cases, or_right, or_left, eqb-true, eqb-false, eq-eqb, ne_eqb, cases_lt, not_from_false}
@@ -39,11 +39,7 @@ renewed_moment : (L now : ℕ) (b : Bool) (pin : Pin) → (renewed L now b pin).
 renewed_moment L now b pin = grind (arith, nat_tests)
 
 pub moments_with : (L now : ℕ) (b : Bool) (pins : List Pin) → moments (pins_with L now b pins) ≡ added L (moments pins)
-moments_with L now b pins =
-    ⊎_elim
-    (λ (e : among L (moments pins) ≡ true). ap moments (cond-true (among L (moments pins)) _ _ e) ∙ moments_map (renewed L now b) pins (renewed_moment L now b) ∙ sym (cond-true (among L (moments pins)) _ _ e))
-    (λ (e : among L (moments pins) ≡ false). ap moments (cond-false (among L (moments pins)) _ _ e) ∙ map-append (λ (pin : Pin). pin.moment) pins (record { moment = L; time = now; uses = 1 } ∷ []) ∙ sym (cond-false (among L (moments pins)) _ _ e))
-    (cases_Bool (among L (moments pins)))
+moments_with L now b pins = let same = moments_map (renewed L now b) pins (renewed_moment L now b) in let new = map-append (λ (pin : Pin). pin.moment) pins (record { moment = L; time = now; uses = 1 } ∷ []) in grind (arith, nat_tests)
 
 distinct_added : (L : ℕ) (ms : List ℕ) → distinct ms ≡ true → distinct (added L ms) ≡ true
 distinct_added L ms d = grind (arith, nat_tests, distinct_push)
@@ -51,11 +47,7 @@ distinct_added L ms d = grind (arith, nat_tests, distinct_push)
 -- a moment that no transaction holds
 pub holders_none : (m : ℕ) (txs : List Transaction) → ((t : Transaction) → Among t txs → among m t.holds ≡ false) → holders m txs ≡ 0
 holders_none m [] none = refl
-holders_none m (t ∷ txs) none =
-    let ih = holders_none m txs (λ u a. none u (inr a)) in
-    let c = holders_cons m t txs in
-    let b : bit m t ≡ 0 = cond-false (among m t.holds) 1 0 (none t (inl refl)) in
-    omega arith
+holders_none m (t ∷ txs) none = let ih = holders_none m txs (λ u a. none u (inr a)) in let here = none t (inl refl) in grind (arith, nat_tests)
 
 -- the uses after the latest was pinned for a transaction
 bit_other : (m L : ℕ) (tx : Transaction) → (m ≡ L → ⊥) → bit m (with_latest L tx) ≡ bit m tx

@@ -5,8 +5,8 @@ use Rattle.terms.specs.declared.record.Change.{Change}
 use Rattle.terms.specs.declared.record.Query.{Query}
 use Rattle.terms.specs.declared.tag.Tag.{Tag}
 use Rattle.terms.specs.declared.fault.Fault.{Fault}
-use Rattle.terms.specs.declared.fault.Fault.TheVariants.{NotOpen, TooManyOpen, LimitTooLong, NumbersUsedUp, FramesOpen, NoFrame, QueryTable, SheetUnknown, TooDeep, NeverDone, RecipeTable, NoPin, NotHeld, NoChange, TooManyChanges, RecordRepeated, ChangeTable, MomentsUsedUp, StreamFull, StoreFull, StreamEmpty, OutOfRange, OutOfMemory}
 use Rattle.terms.specs.Moments.{highest}
+use Rattle.terms.specs.Faults.{number_of}
 use Rattle.terms.specs.Records.{Reading, known_table, change_id}
 use Rattle.database.specs.States.{Records}
 use Rattle.database.specs.Writes.{names, wrong_change, wrong_list, or_else}
@@ -16,7 +16,6 @@ use Rattle.recipe.specs.Recipes.{Rules, AgreeAll, table_of}
 use Rattle.recipe.proofs.Runs.{value_is_one, value_rests}
 use Rattle.model.specs.declared.call.Call.{Call}
 use Rattle.model.specs.declared.call.Call.TheVariants.{Begin, Sheet, Step, Query as Directly, Commit, Abort, Write, Deliver, Sweep}
-use Rattle.model.specs.declared.call.Reply.TheVariants.{Began, Read, Open, Committed, Aborted, Written, Delivered, Swept}
 use Rattle.model.specs.Books.{Pin, Transaction, Row, Hall, find, newest_of}
 use Rattle.model.specs.Rules.{Picks, taken, pinned, gave_up, kept}
 use Rattle.model.specs.Calls.{Outcome, Question, of_query, of_sheet, Does, has_frames, sheet_refusal, query_refusal, step_refusal, end_refusal, deliver_refusal, refusal_of}
@@ -47,29 +46,7 @@ halls_agree rules o p one other hall hall' lives lives' tx tx' a a' given given'
 
 -- no refusal before a call does anything is 32
 abbrev unheld : Fault → Bool
-unheld NotOpen = false
-unheld TooManyOpen = false
-unheld LimitTooLong = false
-unheld NumbersUsedUp = false
-unheld FramesOpen = false
-unheld NoFrame = false
-unheld QueryTable = false
-unheld (SheetUnknown frames) = false
-unheld (TooDeep frames) = false
-unheld (NeverDone frames) = false
-unheld (RecipeTable frames) = false
-unheld (NoPin frames) = false
-unheld (NotHeld frames) = true
-unheld NoChange = false
-unheld TooManyChanges = false
-unheld (RecordRepeated index) = false
-unheld (ChangeTable index) = false
-unheld MomentsUsedUp = false
-unheld StreamFull = false
-unheld StoreFull = false
-unheld StreamEmpty = false
-unheld OutOfRange = false
-unheld OutOfMemory = false
+unheld fault = eqb (number_of fault) 32
 
 abbrev is32 : Option Fault → Bool
 is32 None = false

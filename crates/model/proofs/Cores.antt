@@ -71,20 +71,12 @@ core_entries p o h hall entries core good = record {
 -- transactions
 pub found : (n : ℕ) (txs : List Transaction) (tx : Transaction) → find n txs ≡ Some tx → Among tx txs × (tx.number ≡ n)
 found n [] tx e = absurd (none-some tx e)
-found n (t ∷ txs) tx e =
-    ⊎_elim
-    (λ (is : eqb n t.number ≡ true). let same = same_Some t tx (sym (cond-true (eqb n t.number) _ _ is) ∙ e) in (inl (sym same), ap (λ (x : Transaction). x.number) (sym same) ∙ sym (eqb-true n t.number is)))
-    (λ (is : eqb n t.number ≡ false). let rest = found n txs tx (sym (cond-false (eqb n t.number) _ _ is) ∙ e) in (inr rest.0, rest.1))
-    (cases_Bool (eqb n t.number))
+found n (t ∷ txs) tx e = let ih = found n txs tx in grind (arith, nat_tests)
 
 -- what stands after one was replaced
 pub in_replaced : (tx' : Transaction) (txs : List Transaction) (t : Transaction) → Among t (replaced tx' txs) → (t ≡ tx') ⊎ Among t txs
 in_replaced tx' [] t a = absurd a
-in_replaced tx' (x ∷ txs) t a =
-    ⊎_elim
-    (λ (is : eqb tx'.number x.number ≡ true). ⊎_elim inl (λ b. inr (inr b)) (subst (Among t) (cond-true (eqb tx'.number x.number) _ _ is) a))
-    (λ (is : eqb tx'.number x.number ≡ false). ⊎_elim (λ e. inr (inl e)) (λ b. ⊎_elim inl (λ c. inr (inr c)) (in_replaced tx' txs t b)) (subst (Among t) (cond-false (eqb tx'.number x.number) _ _ is) a))
-    (cases_Bool (eqb tx'.number x.number))
+in_replaced tx' (x ∷ txs) t a = let ih = in_replaced tx' txs t in grind (arith, nat_tests)
 
 pub numbers_replaced : (tx' : Transaction) (txs : List Transaction) → numbers (replaced tx' txs) ≡ numbers txs
 numbers_replaced tx' [] = refl
@@ -204,37 +196,11 @@ holders_cons m tx txs = grind (arith, nat_tests)
 
 pub holders_replaced : (m : ℕ) (tx tx' : Transaction) (txs : List Transaction) → find tx'.number txs ≡ Some tx → holders m (replaced tx' txs) + bit m tx ≡ holders m txs + bit m tx'
 holders_replaced m tx tx' [] e = absurd (none-some tx e)
-holders_replaced m tx tx' (x ∷ txs) e =
-    ⊎_elim
-    (λ (is : eqb tx'.number x.number ≡ true).
-    let same = same_Some x tx (sym (cond-true (eqb tx'.number x.number) _ _ is) ∙ e) in
-    let a = ap (holders m) (cond-true (eqb tx'.number x.number) (tx' ∷ txs) (x ∷ replaced tx' txs) is) in
-    let b = holders_cons m tx' txs in let c = holders_cons m x txs in
-    let d = ap (bit m) same in
-    omega arith)
-    (λ (is : eqb tx'.number x.number ≡ false).
-    let ih = holders_replaced m tx tx' txs (sym (cond-false (eqb tx'.number x.number) _ _ is) ∙ e) in
-    let a = ap (holders m) (cond-false (eqb tx'.number x.number) (tx' ∷ txs) (x ∷ replaced tx' txs) is) in
-    let b = holders_cons m x (replaced tx' txs) in let c = holders_cons m x txs in
-    omega arith)
-    (cases_Bool (eqb tx'.number x.number))
+holders_replaced m tx tx' (x ∷ txs) e = let ih = holders_replaced m tx tx' txs in grind (arith, nat_tests)
 
 pub holders_removed : (m n : ℕ) (tx : Transaction) (txs : List Transaction) → find n txs ≡ Some tx → holders m (removed n txs) + bit m tx ≡ holders m txs
 holders_removed m n tx [] e = absurd (none-some tx e)
-holders_removed m n tx (x ∷ txs) e =
-    ⊎_elim
-    (λ (is : eqb n x.number ≡ true).
-    let same = same_Some x tx (sym (cond-true (eqb n x.number) _ _ is) ∙ e) in
-    let a = ap (holders m) (cond-true (eqb n x.number) txs (x ∷ removed n txs) is) in
-    let c = holders_cons m x txs in
-    let d = ap (bit m) same in
-    omega arith)
-    (λ (is : eqb n x.number ≡ false).
-    let ih = holders_removed m n tx txs (sym (cond-false (eqb n x.number) _ _ is) ∙ e) in
-    let a = ap (holders m) (cond-false (eqb n x.number) txs (x ∷ removed n txs) is) in
-    let b = holders_cons m x (removed n txs) in let c = holders_cons m x txs in
-    omega arith)
-    (cases_Bool (eqb n x.number))
+holders_removed m n tx (x ∷ txs) e = let ih = holders_removed m n tx txs in grind (arith, nat_tests)
 
 -- one transaction changes, and holds what it held
 pub core_tx : (p : Rules) (o : Origin) (h : List Event) (hall : Hall) (tx tx' : Transaction) → Core p o h hall → find tx'.number hall.books.txs ≡ Some tx → tx'.holds ≡ tx.holds

@@ -104,10 +104,7 @@ counts_same h e txs txs' neutral same c = record {
 }
 
 shut : (a b : Bool) → (a && not b) ≡ cond b false a
-shut true true = refl
-shut true false = refl
-shut false true = refl
-shut false false = refl
+shut a b = grind arith
 
 counts_end : (h : List Event) (e : Event) (n : ℕ) (tx : Transaction) (txs : List Transaction) → (cond (is_commit e.reply) true (is_abort e.reply) ≡ true) → is_begin e.reply ≡ false → (is_commit e.reply && is_abort e.reply) ≡ false → ((k : ℕ) → starts k e.reply ≡ false) → ((k : ℕ) → finishes k e.call e.reply ≡ eqb k n)
     → distinct (numbers txs) ≡ true → find n txs ≡ Some tx → Counts h txs → Counts (e ∷ h) (removed tx.number txs)

@@ -1,7 +1,7 @@
 -- What is answered at the end of a sheet answers the transaction's last accepted call: the bottom frame is that sheet's.
-use Rattle.std.proofs.Common.{◌≡◌, ℕ, Bool, true, false, cond, eqb, List, [], ◌∷◌, map, Some, None, Option, sym, refl, ap, ◌∙◌, subst, inl, inr, ⊎_elim, arith, Ok, Err}
+use Rattle.std.proofs.Common.{◌≡◌, ℕ, true, false, cond, eqb, List, [], ◌∷◌, map, Some, None, Option, sym, refl, ap, ◌∙◌, subst, inl, inr, ⊎_elim, Ok}
 use Rattle.std.proofs.lemmas.Option.{none-some, same_Some}
-use Rattle.std.proofs.lemmas.Bool.{cases_Bool, both_ways, eqb-true, eq-eqb}
+use Rattle.std.proofs.lemmas.Bool.{cases_Bool, eqb-true, eq-eqb}
 use Rattle.terms.specs.declared.record.Change.{Change}
 use Rattle.terms.specs.Records.{Reading}
 use Rattle.database.specs.Lists.{distinct}
@@ -9,7 +9,7 @@ use Rattle.database.specs.Databases.{Db}
 use Rattle.cache.specs.Lists.{Among}
 use Rattle.recipe.specs.Recipes.{Rules}
 use Rattle.model.specs.declared.call.Call.{Call}
-use Rattle.model.specs.declared.call.Reply.TheVariants.{Began, Read, Open, Committed, Aborted, Written as Wrote, Delivered, Swept}
+use Rattle.model.specs.declared.call.Reply.TheVariants.{Read}
 use Rattle.model.specs.Books.{Pin, Part, Frame, Transaction, Books, Hall, fresh_frame, find, replaced, removed}
 use Rattle.model.specs.Rules.{Picks, taken, pinned, gave_up, kept, hit_part, answer_part, cut, narrowed}
 use Rattle.model.specs.Calls.{Outcome, Question, of_query, of_sheet, Given, Does, went, handed, with_frames, begun}

@@ -36,7 +36,7 @@ use Rattle.model.proofs.Towers.{Stack, TowerTo, queried, called, done_gives, nth
 use Rattle.model.proofs.Cores.{EntryGood, TxGood, Core, core_entries, found}
 use Rattle.model.proofs.Steps.{set_held, core_given, core_frames, find_replaced, replaced_again}
 use Rattle.model.proofs.Choosing.{core_pick}
-use Rattle.model.proofs.Asked.{one_given, among_of, found_at, same_entries, key_gives, whole_inside}
+use Rattle.model.proofs.Asked.{among_of, found_at, same_entries, key_gives, whole_inside}
 
 -- the frames, once the top one went on, have the parts that they had
 part_same : (P : Part → Type 0) (f f' : Frame) (fs : List Frame) → f'.part ≡ f.part → ((i : ℕ) (g : Frame) → nth i (f ∷ fs) ≡ Some g → P g.part) → (i : ℕ) (g : Frame) → nth i (f' ∷ fs) ≡ Some g → P g.part
@@ -204,7 +204,7 @@ step_done_core p o h number now reading hall tx frame below frames entries core 
     (sheet_same p below (handed reading below) frames (good.sheets 1 below (to 0 below refl)) (λ i g x. good.sheets (suc i) g (to i g x)))
     refl
     (λ given nw.
-    let same = one_given (record { number = number; question = of_sheet frame.point.sheet frame.point.argument; reading = reading }) given nw in (
+    let same = same_Some (record { number = number; question = of_sheet frame.point.sheet frame.point.argument; reading = reading }) given nw in (
       ap (λ (x : Given). x.number) (sym same) ∙ sym own.1,
       λ pr z. subst (λ (x : Given). Right p z x.question x.reading) same (right.1 pr z),
       λ m a. subst (λ (x : Given). Right p (records_at o h m) x.question x.reading) same (right.2 m a),
@@ -224,7 +224,7 @@ step_last_core p o h number now reading hall tx frame entries core is fr asked e
     (record { db = hall.db; entries = entries; books = hall.books }) tx [] core₁ (found_at number hall.books.txs tx is)
     (λ i g x. absurd (none-some g x)) (λ pr i g x. absurd (none-some g x)) (λ m a i g x. absurd (none-some g x)) (λ i g x. absurd (none-some g x)) refl
     (λ given nw.
-    let same = one_given (record { number = number; question = of_sheet frame.point.sheet frame.point.argument; reading = reading }) given nw in (
+    let same = same_Some (record { number = number; question = of_sheet frame.point.sheet frame.point.argument; reading = reading }) given nw in (
       ap (λ (x : Given). x.number) (sym same) ∙ sym own.1,
       λ pr z. subst (λ (x : Given). Right p z x.question x.reading) same (right.1 pr z),
       λ m a. subst (λ (x : Given). Right p (records_at o h m) x.question x.reading) same (right.2 m a),

@@ -2,7 +2,7 @@
 use Rattle.std.proofs.Common.{◌≡◌, ℕ, ◌+◌, ◌<◌, ◌≤◌, Bool, true, false, cond, not, ◌&&◌, ◌||◌, eqb, ltb, List, [], ◌∷◌, ◌++◌, map, Some, None, filter, Option, sym, refl, ap, ◌∙◌, subst, inl, inr, ⊎_elim, arith}
 use Rattle.std.proofs.lemmas.Option.{none-some}
 use Rattle.std.proofs.lemmas.Bool.Decides.{nat_tests}
-use Rattle.std.proofs.lemmas.Bool.{cases_Bool, both_ways, cond-true, cond-false, ltb-true, ltb-false, lt-ltb, le-ltb, and_from, and_parts, or_cases, or_right, or_left, or_from, eqb-true, eqb-false, eq-eqb, ne_eqb, not-true, not_from_true, not_from_false}
+use Rattle.std.proofs.lemmas.Bool.{cases_Bool, both_ways, cond-true, cond-false, ltb-true, lt-ltb, and_from, and_parts, or_cases, or_right, or_left, or_from, eqb-true, eq-eqb, ne_eqb, not-true, not_from_false}
 use Rattle.database.specs.Lists.{among, distinct, without}
 use Rattle.database.specs.States.{Records}
 use Rattle.cache.specs.Lists.{Among}
@@ -129,11 +129,7 @@ begin_core p o h now limit hall e core w none =
 -- commit and abort
 pub in_removed : (n : ℕ) (txs : List Transaction) (t : Transaction) → Among t (removed n txs) → Among t txs
 in_removed n [] t a = a
-in_removed n (x ∷ txs) t a =
-    ⊎_elim
-    (λ (e : eqb n x.number ≡ true). inr (subst (Among t) (cond-true (eqb n x.number) _ _ e) a))
-    (λ (e : eqb n x.number ≡ false). ⊎_elim inl (λ b. inr (in_removed n txs t b)) (subst (Among t) (cond-false (eqb n x.number) _ _ e) a))
-    (cases_Bool (eqb n x.number))
+in_removed n (x ∷ txs) t a = let ih = in_removed n txs t in grind (arith, nat_tests)
 
 pub numbers_removed : (n : ℕ) (txs : List Transaction) → distinct (numbers txs) ≡ true → numbers (removed n txs) ≡ without n (numbers txs)
 numbers_removed n [] d = refl
@@ -238,18 +234,7 @@ rows_past o (e ∷ h) row a =
 
 later_rows : (T : ℕ) (rows : List Row) → filter (λ row. not (is_of (T + 1) row)) (filter (λ row. ltb T row.moment) rows) ≡ filter (λ row. ltb (T + 1) row.moment) rows
 later_rows T [] = refl
-later_rows T (row ∷ rows) =
-    let ih = later_rows T rows in
-    let m = row.moment in
-    ⊎_elim
-    (λ (a : ltb T m ≡ true).
-    let l = ltb-true T m a in
-    ⊎_elim
-    (λ (b : eqb m (T + 1) ≡ true). let is = eqb-true m (T + 1) b in let c : ltb (T + 1) m ≡ false = le-ltb (T + 1) m (omega arith) in rw a (rw b (rw c ih)))
-    (λ (b : eqb m (T + 1) ≡ false). let ne = eqb-false m (T + 1) b in let c : ltb (T + 1) m ≡ true = lt-ltb (T + 1) m (omega arith) in rw a (rw b (rw c (ap (λ rs. row ∷ rs) ih))))
-    (cases_Bool (eqb m (T + 1))))
-    (λ (a : ltb T m ≡ false). let l = ltb-false T m a in let c : ltb (T + 1) m ≡ false = le-ltb (T + 1) m (omega arith) in rw a (rw c ih))
-    (cases_Bool (ltb T m))
+later_rows T (row ∷ rows) = let ih = later_rows T rows in grind (arith, nat_tests)
 
 closes_each : (n : ℕ) (rows : List Row) (before after : List Entry) → ClosesAll n rows before after → (e : Entry) → Among e after → (was : Entry) × Among was before × (e ≡ closed_all rows n was)
 closes_each n rows before after (calls.ClosesAll.none b) e a = (e, a, refl)
@@ -310,9 +295,7 @@ pub record Gone (ms : List ℕ) (db after : Db) : Type 0 where
   pub states : (n t k : ℕ) → held after n ≡ true → after.at n t k ≡ db.at n t k
 
 both : (a b c : Bool) → ((a && not b) && not c) ≡ (a && not (b || c))
-both true true c = refl
-both true false c = refl
-both false b c = refl
+both a b c = grind arith
 
 gone : (ms : List ℕ) (db after : Db) → UnpinsEach ms db after → Gone ms db after
 gone ms db after (calls.UnpinsEach.none d) = record { latest = refl; pins = λ n. grind arith; states = λ n t k hd. refl }
