@@ -1,12 +1,12 @@
 -- What the sheets of the two recipes are worth.
-use Rattle.std.proofs.Common.{◌≡◌, ℕ, suc, true, false, ltb, leb, List, [], Some, None, Ok, Err, MatchBool, Option, Result, sym, refl, ap, ◌∙◌, subst, ⊎_elim, arith, lit<}
+use Rattle.std.proofs.Common.{◌≡◌, ℕ, suc, true, false, ltb, leb, List, [], Some, None, Ok, Err, MatchBool, Option, Result, sym, refl, ap, ◌∙◌, subst, ⊎_elim, lit<}
 use Rattle.std.specs.Result.{result_or}
-use Rattle.std.proofs.lemmas.Bool.{cases_Bool, both_ways, cond-true, cond-false}
+use Rattle.std.proofs.lemmas.Bool.{cases_Bool, cond-true, cond-false}
 use Rattle.terms.specs.declared.record.Value.{Value}
 use Rattle.terms.specs.declared.record.Query.TheVariants.{Tally}
 use Rattle.terms.specs.declared.tag.Tag.{Tag}
 use Rattle.terms.specs.declared.fault.Fault.{Fault}
-use Rattle.terms.specs.declared.fault.Fault.TheVariants.{NotOpen, TooManyOpen, LimitTooLong, NumbersUsedUp, FramesOpen, NoFrame, QueryTable, SheetUnknown, TooDeep, NeverDone, RecipeTable, NoPin, NotHeld, NoChange, TooManyChanges, RecordRepeated, ChangeTable, MomentsUsedUp, StreamFull, StoreFull, StreamEmpty, OutOfRange, OutOfMemory}
+use Rattle.terms.specs.declared.fault.Fault.TheVariants.{NotHeld}
 use Rattle.terms.specs.Records.{Reading, shown}
 use Rattle.database.specs.States.{Records, Reads, KeysIn, seen, tallied}
 use Rattle.database.specs.Databases.{Db, held, Sound}
@@ -17,31 +17,6 @@ use Rattle.recipe.specs.Evaluations.{Fails, Evaluates}
 use Rattle.recipe.specs.Sheets.{get_of, finish, narrow, claimed, attendant, count_of, counts, board, claim_of_door, claim_of_word, claim_of_ticket, claim_of, TallyOf, CountsOf, HasValue, Worth}
 use Rattle.recipe.proofs.Runs.{same_end, clash_done, clash_call, clash_query, query_one, call_sheet, call_argument}
 
-not_failed : (U N W : Type 0) (fault : Fault) → (U → ⊥) → (N → ⊥) → (W → ⊥) → Fails U N W fault → ⊥
-not_failed U N W (SheetUnknown frames) u n w f = n f.0
-not_failed U N W (TooDeep frames) u n w f = w f.0
-not_failed U N W (NeverDone frames) u n w f = n f.0
-not_failed U N W (RecipeTable frames) u n w f = n f.0
-not_failed U N W (NotHeld frames) u n w f = u f.0
-not_failed U N W NotOpen u n w f = f
-not_failed U N W TooManyOpen u n w f = f
-not_failed U N W LimitTooLong u n w f = f
-not_failed U N W NumbersUsedUp u n w f = f
-not_failed U N W FramesOpen u n w f = f
-not_failed U N W NoFrame u n w f = f
-not_failed U N W QueryTable u n w f = f
-not_failed U N W (NoPin frames) u n w f = f
-not_failed U N W NoChange u n w f = f
-not_failed U N W TooManyChanges u n w f = f
-not_failed U N W (RecordRepeated index) u n w f = f
-not_failed U N W (ChangeTable index) u n w f = f
-not_failed U N W MomentsUsedUp u n w f = f
-not_failed U N W StreamFull u n w f = f
-not_failed U N W StoreFull u n w f = f
-not_failed U N W StreamEmpty u n w f = f
-not_failed U N W OutOfRange u n w f = f
-not_failed U N W OutOfMemory u n w f = f
-
 -- a sheet that has a value within the depth fails only where the moment is not held
 unheld : (db : Db) (p : Rules) (m sheet argument depth : ℕ) (fault : Fault)
     → (held db m ≡ true → (r : Reading) × GivesWithin p (db.at m) depth sheet argument r)
@@ -49,9 +24,7 @@ unheld : (db : Db) (p : Rules) (m sheet argument depth : ℕ) (fault : Fault)
     → held db m ≡ false
 unheld db p m sheet argument depth fault value fails =
     ⊎_elim
-    (λ h. let v = value h in
-    absurd (not_failed (held db m ≡ false) ((r : Reading) → Gives p (db.at m) sheet argument r → ⊥) ((r : Reading) → GivesWithin p (db.at m) depth sheet argument r → ⊥) fault
-    (λ u. both_ways (held db m) u h) (λ none. none v.0 (depth, v.1)) (λ within. within v.0 v.1) fails))
+    (λ h. let v = value h in ⊎_elim (λ u. u.0) (λ more. absurd (⊎_elim (λ within. within.0 v.0 v.1) (λ none. none.0 v.0 (depth, v.1)) more)) fails)
     (λ h. h)
     (cases_Bool (held db m))
 
