@@ -12,6 +12,7 @@ use Rattle.database.specs.Databases.{Db, held}
 use Rattle.cache.specs.Lists.{Among}
 use Rattle.cache.specs.TagSets.{touched, has_tag, is_tag, same_keys}
 use Rattle.recipe.specs.Recipes.{AgreeAll}
+use Rattle.recipe.proofs.Runs.{agree_split}
 use Rattle.model.specs.Books.{Part, Row}
 use Rattle.model.specs.Rules.{meet, meet_until, join_tags, fitting, bearing}
 use Rattle.model.specs.Traces.{Origin, Event, records_at, rows_of}
@@ -101,10 +102,6 @@ join_right tag xs (y ∷ ys) e =
     (λ (t : has_tag y xs ≡ false). (or_parts _ _ (or_parts _ _ (sym (touched_append tag xs (y ∷ [])) ∙ ap (λ b. touched tag (cond b xs (xs ++ y ∷ []))) (sym t) ∙ here)).1).0)
     (cases_Bool (has_tag y xs)) in
     or_from _ _ one rest
-
-agree_split : (xs ys : List Tag) (s z : Records) → AgreeAll (xs ++ ys) s z → AgreeAll xs s z × AgreeAll ys s z
-agree_split [] ys s z a = (tt, a)
-agree_split (x ∷ xs) ys s z a = let rest = agree_split xs ys s z a.1 in ((a.0, rest.0), rest.1)
 
 agree_has : (y : Tag) (xs : List Tag) (s z : Records) → has_tag y xs ≡ true → AgreeAll xs s z → Agree y s z
 agree_has y [] s z has a = absurd (both_ways _ refl has)

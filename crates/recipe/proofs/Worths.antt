@@ -1,6 +1,7 @@
 -- What the sheets of the two recipes are worth.
-use Rattle.std.proofs.Common.{◌≡◌, ℕ, suc, true, false, ltb, leb, List, [], Some, None, Ok, Err, MatchBool, Option, Result, sym, refl, ap, ◌∙◌, subst, ⊎_elim, lit<}
+use Rattle.std.proofs.Common.{◌≡◌, ℕ, suc, true, false, leb, List, [], Some, None, Ok, Err, Option, Result, sym, refl, ap, ◌∙◌, subst, ⊎_elim, lit<, arith}
 use Rattle.std.specs.Result.{result_or}
+use Rattle.std.proofs.lemmas.Bool.Decides.{nat_tests}
 use Rattle.std.proofs.lemmas.Bool.{cases_Bool, cond-true, cond-false}
 use Rattle.terms.specs.declared.record.Value.{Value}
 use Rattle.terms.specs.declared.record.Query.TheVariants.{Tally}
@@ -42,7 +43,7 @@ worth_of db p m sheet argument depth Q (Err fault) means wrong = wrong
 
 -- the claim sheet
 narrow_is : (door word : ℕ) → Some door ≡ narrow word → door ≡ word
-narrow_is door word e = ⊎_elim (λ (t : ltb word 4294967296 ≡ true). let f : narrow word ≡ Some word = cond-true (ltb word 4294967296) _ _ t in cc) (λ (t : ltb word 4294967296 ≡ false). let f : narrow word ≡ None = cond-false (ltb word 4294967296) _ _ t in cc) (cases_Bool (ltb word 4294967296))
+narrow_is door word e = grind (arith, nat_tests)
 
 door_is : (ticket door : ℕ) (value : Option Value) → claimed ticket (Some door) (shown value) ≡ claim_of_door ticket door value
 door_is ticket door None = refl
@@ -97,11 +98,7 @@ tally_none s argument d n r ts e run =
     let end : Runs board s 0 1 (start 0 argument) None [] = done {left = 0} (ap (λ t. t.ask) (none_turn argument e)) in same_end run end
 
 tally_worth : (s : Records) (argument d n : ℕ) (r : Reading) (ts : List Tag) → Runs board s d n (start 0 argument) r ts → TallyOf s argument r
-tally_worth s argument d n r ts run =
-    ⊎_elim
-    (λ (e : leb argument 255 ≡ true). subst (λ b. MatchBool b (Reads s (Tally 0 argument) r) (r ≡ None)) (sym e) (tally_query s argument d n r ts e run))
-    (λ (e : leb argument 255 ≡ false). subst (λ b. MatchBool b (Reads s (Tally 0 argument) r) (r ≡ None)) (sym e) (tally_none s argument d n r ts e run))
-    (cases_Bool (leb argument 255))
+tally_worth s argument d n r ts run = let query = tally_query s argument d n r ts in let none = tally_none s argument d n r ts in grind (arith, nat_tests)
 
 pub tally_runs : (s : Records) (argument d : ℕ) (keys : List ℕ) → leb argument 255 ≡ true → KeysIn s 0 argument keys → Ends board s d 32 (start 0 argument) (tallied keys)
 tally_runs s argument d keys e told = (
