@@ -1,7 +1,7 @@
 -- What an interval with tags claims of the records of its moments, and how claims are kept, joined and used.
 use Rattle.std.proofs.Common.{◌≡◌, ℕ, ◌+◌, ◌<◌, ◌≤◌, min, max, Bool, true, false, cond, ◌||◌, leb, ◌⊎◌, List, [], ◌∷◌, ◌++◌, length, Some, None, Option, sym, refl, ap, ◌∙◌, subst, inl, inr, ⊎_elim, arith}
 use Rattle.std.proofs.lemmas.Bool.Decides.{nat_tests}
-use Rattle.std.proofs.lemmas.Bool.{cases_Bool, both_ways, leb-true, leb-false, le-leb, ltb-true, lt-ltb, and_from, and_parts, or_cases, or_from, or_parts, eqb-true}
+use Rattle.std.proofs.lemmas.Bool.{cases_Bool, both_ways, leb-true, leb-false, le-leb, ltb-true, lt-ltb, and_from, and_parts, or_cases, eqb-true}
 use Rattle.terms.specs.declared.interval.Until.{Until}
 use Rattle.terms.specs.declared.interval.Until.TheVariants.{Ended, Open}
 use Rattle.terms.specs.declared.tag.Tag.{Tag}
@@ -86,10 +86,7 @@ touched_has tag y (x ∷ xs) has e = let ih = touched_has tag y xs in let same =
 join_left : (tag : Tag) (xs ys : List Tag) → touched tag (join_tags xs ys) ≡ false → touched tag xs ≡ false
 join_left tag xs [] e = e
 join_left tag xs (y ∷ ys) e =
-    let ih = join_left tag (cond (has_tag y xs) xs (xs ++ y ∷ [])) ys e in
-    ⊎_elim (λ (t : has_tag y xs ≡ true). ap (λ b. touched tag (cond b xs (xs ++ y ∷ []))) (sym t) ∙ ih)
-    (λ (t : has_tag y xs ≡ false). (or_parts _ _ (sym (touched_append tag xs (y ∷ [])) ∙ ap (λ b. touched tag (cond b xs (xs ++ y ∷ []))) (sym t) ∙ ih)).0)
-    (cases_Bool (has_tag y xs))
+    let ih = join_left tag (cond (has_tag y xs) xs (xs ++ y ∷ [])) ys e in let more = touched_append tag xs (y ∷ []) in grind (arith, nat_tests)
 
 join_right : (tag : Tag) (xs ys : List Tag) → touched tag (join_tags xs ys) ≡ false → touched tag ys ≡ false
 join_right tag xs [] e = refl
@@ -97,11 +94,9 @@ join_right tag xs (y ∷ ys) e =
     let more = cond (has_tag y xs) xs (xs ++ y ∷ []) in
     let rest = join_right tag more ys e in
     let here = join_left tag more ys e in
-    let one : touches tag y ≡ false =
-    ⊎_elim (λ (t : has_tag y xs ≡ true). touched_has tag y xs t (join_left tag xs (y ∷ ys) e))
-    (λ (t : has_tag y xs ≡ false). (or_parts _ _ (or_parts _ _ (sym (touched_append tag xs (y ∷ [])) ∙ ap (λ b. touched tag (cond b xs (xs ++ y ∷ []))) (sym t) ∙ here)).1).0)
-    (cases_Bool (has_tag y xs)) in
-    or_from _ _ one rest
+    let has = touched_has tag y xs in
+    let append = touched_append tag xs (y ∷ []) in
+    grind (arith, nat_tests)
 
 agree_has : (y : Tag) (xs : List Tag) (s z : Records) → has_tag y xs ≡ true → AgreeAll xs s z → Agree y s z
 agree_has y [] s z has a = absurd (both_ways _ refl has)

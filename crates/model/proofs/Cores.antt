@@ -1,8 +1,8 @@
 -- What is carried from call to call.
-use Rattle.std.proofs.Common.{◌≡◌, ℕ, ◌+◌, ◌<◌, ◌≤◌, true, false, cond, eqb, ltb, ◌⊎◌, List, [], ◌∷◌, map, Some, None, filter, sym, refl, ap, ◌∙◌, subst, inl, inr, ⊎_elim, arith}
-use Rattle.std.proofs.lemmas.Option.{none-some, same_Some}
+use Rattle.std.proofs.Common.{◌≡◌, ℕ, ◌+◌, ◌<◌, ◌≤◌, true, false, cond, ltb, ◌⊎◌, List, [], ◌∷◌, map, Some, None, filter, sym, refl, ap, ◌∙◌, subst, inl, inr, ⊎_elim, arith}
+use Rattle.std.proofs.lemmas.Option.{none-some}
 use Rattle.std.proofs.lemmas.Bool.Decides.{nat_tests}
-use Rattle.std.proofs.lemmas.Bool.{cases_Bool, both_ways, cond-true, cond-false, and_parts, or_right, or_left, eqb-true, eqb-false, eq-eqb, not-true}
+use Rattle.std.proofs.lemmas.Bool.{or_right, or_left, eq-eqb}
 use Rattle.terms.specs.Intervals.{contains}
 use Rattle.database.specs.Lists.{among, distinct}
 use Rattle.database.specs.States.{Records}
@@ -90,18 +90,7 @@ among_by f x (y ∷ xs) a = ⊎_elim (λ is. or_left _ _ (eq-eqb (f x) (f y) (ap
 -- a number is that of one transaction
 pub only_one : (n : ℕ) (txs : List Transaction) (tx t : Transaction) → distinct (numbers txs) ≡ true → find n txs ≡ Some tx → Among t txs → t.number ≡ n → t ≡ tx
 only_one n [] tx t d e a is = absurd a
-only_one n (x ∷ txs) tx t d e a is =
-    let parts = and_parts _ _ d in
-    ⊎_elim
-    (λ (here : eqb n x.number ≡ true).
-    let same = same_Some x tx (sym (cond-true (eqb n x.number) _ _ here) ∙ e) in
-    ⊎_elim (λ top. top ∙ same)
-    (λ b. let clash : among x.number (numbers txs) ≡ true = ap (λ k. among k (numbers txs)) (sym (eqb-true n x.number here) ∙ sym is) ∙ among_by (λ (y : Transaction). y.number) t txs b in
-    absurd (both_ways (among x.number (numbers txs)) (not-true _ parts.0) clash)) a)
-    (λ (here : eqb n x.number ≡ false).
-    ⊎_elim (λ top. absurd (eqb-false n x.number here (sym is ∙ ap (λ (y : Transaction). y.number) top)))
-    (λ b. only_one n txs tx t parts.1 (sym (cond-false (eqb n x.number) _ _ here) ∙ e) b is) a)
-    (cases_Bool (eqb n x.number))
+only_one n (x ∷ txs) tx t d e a is = let ih = only_one n txs tx t in let own = among_by (λ (y : Transaction). y.number) t txs in grind (arith, nat_tests)
 
 -- a call that writes nothing, and gives nothing or what is right
 pub stack_skip : (p : Rules) (o : Origin) (h : List Event) (e : Event) (db : Db) (frames : List Frame) → is_write e.reply ≡ false → Stack p o h db frames → Stack p o (e ∷ h) db frames

@@ -1,6 +1,7 @@
 -- The law stands after every list of calls.
 use Rattle.std.proofs.Common.{◌≡◌, ℕ, ◌+◌, Bool, true, false, cond, not, ◌&&◌, ◌||◌, eqb, List, [], ◌∷◌, length, Some, None, Option, sym, refl, ap, ◌∙◌, subst, ⊎_elim, arith, Ok}
-use Rattle.std.proofs.lemmas.Bool.{cases_Bool, both_ways, cond-true, cond-false, or_cases, eqb-true}
+use Rattle.std.proofs.lemmas.Bool.Decides.{nat_tests}
+use Rattle.std.proofs.lemmas.Bool.{both_ways, cond-false, or_cases, eqb-true}
 use Rattle.std.proofs.lemmas.List.{length-map}
 use Rattle.terms.specs.declared.record.Change.{Change}
 use Rattle.database.specs.Lists.{among, distinct, without}
@@ -116,19 +117,7 @@ counts_end h e n tx txs ends no-begin one no_start fin apart is c =
     let l' : length (removed tx.number txs) ≡ length (without tx.number (numbers txs)) = sym (length-map (removed tx.number txs) (λ (t : Transaction). t.number)) ∙ ap length same in
     let l = length-map txs (λ (t : Transaction). t.number) in
     record {
-      counted =
-          let a = cond-false (is_begin e.reply) (how_many is_begin h + 1) (how_many is_begin h) no-begin in
-          let old = c.counted in
-          ⊎_elim
-          (λ (x : is_commit e.reply ≡ true).
-          let y : is_abort e.reply ≡ false = ap (λ b. b && is_abort e.reply) (sym x) ∙ one in
-          let b = cond-true (is_commit e.reply) (how_many is_commit h + 1) (how_many is_commit h) x in
-          let d = cond-false (is_abort e.reply) (how_many is_abort h + 1) (how_many is_abort h) y in omega arith)
-          (λ (x : is_commit e.reply ≡ false).
-          let y : is_abort e.reply ≡ true = sym (cond-false (is_commit e.reply) true (is_abort e.reply) x) ∙ ends in
-          let b = cond-false (is_commit e.reply) (how_many is_commit h + 1) (how_many is_commit h) x in
-          let d = cond-true (is_abort e.reply) (how_many is_abort h + 1) (how_many is_abort h) y in omega arith)
-          (cases_Bool (is_commit e.reply));
+      counted = let old = c.counted in grind (arith, nat_tests);
       exactly = λ k.
           ap (among k) same ∙ among_without k tx.number (numbers txs) ∙ ap (λ b. b && not (eqb k tx.number)) (c.exactly k) ∙ ap (λ j. is_open_in k h && not (eqb k j)) own.1
           ∙ shut (is_open_in k h) (eqb k n) ∙ sym (cond-false (starts k e.reply) _ _ (no_start k) ∙ ap (λ b. cond b false (is_open_in k h)) (fin k));
@@ -136,11 +125,7 @@ counts_end h e n tx txs ends no-begin one no_start fin apart is c =
 
 counts_begin : (h : List Event) (e : Event) (n : ℕ) (tx : Transaction) (txs : List Transaction) → is_begin e.reply ≡ true → is_commit e.reply ≡ false → is_abort e.reply ≡ false → ((k : ℕ) → starts k e.reply ≡ eqb k n) → ((k : ℕ) → finishes k e.call e.reply ≡ false) → tx.number ≡ n → Counts h txs → Counts (e ∷ h) (tx ∷ txs)
 counts_begin h e n tx txs begins no-commit no_Abort start no_end is c = record {
-  counted =
-      let a = cond-true (is_begin e.reply) (how_many is_begin h + 1) (how_many is_begin h) begins in
-      let b = cond-false (is_commit e.reply) (how_many is_commit h + 1) (how_many is_commit h) no-commit in
-      let d = cond-false (is_abort e.reply) (how_many is_abort h + 1) (how_many is_abort h) no_Abort in
-      let old = c.counted in omega arith;
+  counted = let old = c.counted in grind (arith, nat_tests);
   exactly = λ k.
       ap (λ j. eqb k j || among k (numbers txs)) is ∙ ap (λ b. eqb k n || b) (c.exactly k) ∙ either (eqb k n) (is_open_in k h)
       ∙ sym (ap (λ b. cond b true (cond (finishes k e.call e.reply) false (is_open_in k h))) (start k) ∙ ap (λ b. cond (eqb k n) true (cond b false (is_open_in k h))) (no_end k));

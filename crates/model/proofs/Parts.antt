@@ -1,6 +1,7 @@
 -- The claims of a queried answer, of a hit, of what a done frame enters, and of what a delivery closes.
 use Rattle.std.proofs.Common.{◌≡◌, ℕ, ◌+◌, ◌<◌, ◌≤◌, max, true, false, cond, ◌&&◌, ltb, leb, List, [], ◌∷◌, length, Some, sym, refl, ap, ◌∙◌, subst, inl, ⊎_elim, arith}
 use Rattle.std.proofs.lemmas.Option.{none-some, same_Some}
+use Rattle.std.proofs.lemmas.Bool.Decides.{nat_tests}
 use Rattle.std.proofs.lemmas.Bool.{cases_Bool, both_ways, cond-true, cond-false, leb-true, leb-false, le-leb, ltb-true, lt-ltb, and_from, and_parts, or_cases, eqb-true, cases_lt}
 use Rattle.terms.specs.declared.interval.Until.{Until}
 use Rattle.terms.specs.declared.interval.Until.TheVariants.{Ended, Open}
@@ -181,10 +182,7 @@ abbrev Spared : Origin → List Event → ℕ → Entry → Type 0
 Spared o h n e = (row : Row) → Among row (rows_of o h) → row.moment ≡ n → closes row.tag n e ≡ false
 
 not_touched : (n : ℕ) (tag : Tag) (e : Entry) → n ≤ highest → is_open e.interval.until ≡ true → e.interval.first < n → closes tag n e ≡ false → touched tag (tags_of e.tags) ≡ false
-not_touched n tag e top op first c =
-    let a : is_end n ≡ true = le-leb n (highest + 1) (omega arith) in
-    let b : ltb e.interval.first n ≡ true = lt-ltb e.interval.first n first in
-    ⊎_elim (λ (t : touched tag (tags_of e.tags) ≡ true). absurd (both_ways (closes tag n e) c (and_from _ _ a (and_from _ _ op (and_from _ _ b t))))) (λ (t : touched tag (tags_of e.tags) ≡ false). t) (cases_Bool (touched tag (tags_of e.tags)))
+not_touched n tag e top op first c = grind (arith, nat_tests)
 
 goes_at : (o : Origin) (h : List Event) (T m : ℕ) (e : Entry) (u : Until) (P : Records → Type 0) → e.interval.until ≡ u → T + 1 ≤ highest → Spared o h (T + 1) e
     → ClaimAt o h (tags_of e.tags) (through_t (max T e.interval.first) u) m P → ClaimAt o h (tags_of e.tags) (through_t (max (T + 1) e.interval.first) u) m P

@@ -2,7 +2,7 @@
 use Rattle.std.proofs.Common.{◌≡◌, ℕ, ◌+◌, ◌<◌, ◌≤◌, Bool, true, false, cond, not, ◌&&◌, ◌||◌, eqb, ltb, List, [], ◌∷◌, ◌++◌, map, Some, None, filter, Option, sym, refl, ap, ◌∙◌, subst, inl, inr, ⊎_elim, arith}
 use Rattle.std.proofs.lemmas.Option.{none-some}
 use Rattle.std.proofs.lemmas.Bool.Decides.{nat_tests}
-use Rattle.std.proofs.lemmas.Bool.{cases_Bool, both_ways, cond-true, cond-false, ltb-true, lt-ltb, and_from, and_parts, or_cases, or_right, or_left, or_from, eqb-true, eq-eqb, ne_eqb, not-true, not_from_false}
+use Rattle.std.proofs.lemmas.Bool.{cases_Bool, both_ways, cond-true, cond-false, ltb-true, lt-ltb, and_from, and_parts, or_cases, or_right, or_left, or_from, eqb-true, eq-eqb, ne_eqb, not_from_false}
 use Rattle.database.specs.Lists.{among, distinct, without}
 use Rattle.database.specs.States.{Records}
 use Rattle.cache.specs.Lists.{Among}
@@ -44,16 +44,7 @@ some_moments f (pin ∷ pins) m a = let ih = some_moments f pins m in grind (ari
 kept_moments : (f : Pin → Bool) (pins : List Pin) (pin : Pin) → distinct (moments pins) ≡ true → Among pin pins → among pin.moment (moments (filter f pins)) ≡ f pin
 kept_moments f [] pin d a = absurd a
 kept_moments f (x ∷ pins) pin d a =
-    let parts = and_parts _ _ d in
-    let out : among x.moment (moments pins) ≡ false = not-true _ parts.0 in
-    ⊎_elim
-    (λ top. let m = ap (λ (y : Pin). y.moment) top in
-    let gone : among x.moment (moments (filter f pins)) ≡ false = ⊎_elim (λ (e : among x.moment (moments (filter f pins)) ≡ true). absurd (both_ways (among x.moment (moments pins)) out (some_moments f pins x.moment e))) (λ (e : among x.moment (moments (filter f pins)) ≡ false). e) (cases_Bool (among x.moment (moments (filter f pins)))) in
-    ap (λ k. among k (moments (filter f (x ∷ pins)))) m ∙ ⊎_elim (λ (e : f x ≡ true). rw e (or_left _ _ (eq-eqb x.moment x.moment refl))) (λ (e : f x ≡ false). rw e gone) (cases_Bool (f x)) ∙ ap f (sym top))
-    (λ b. let ih = kept_moments f pins pin parts.1 b in
-    let ne : eqb pin.moment x.moment ≡ false = ne_eqb pin.moment x.moment (λ e. both_ways (among x.moment (moments pins)) out (ap (λ k. among k (moments pins)) (sym e) ∙ among_by (λ (y : Pin). y.moment) pin pins b)) in
-    ⊎_elim (λ (e : f x ≡ true). rw e (ap (λ t. t || among pin.moment (moments (filter f pins))) ne ∙ ih)) (λ (e : f x ≡ false). rw e ih) (cases_Bool (f x)))
-    a
+    let ih = kept_moments f pins pin in let some = some_moments f pins x.moment in let own = among_by (λ (y : Pin). y.moment) pin pins in grind (arith, nat_tests)
 
 distinct_some : (f : Pin → Bool) (pins : List Pin) → distinct (moments pins) ≡ true → distinct (moments (filter f pins)) ≡ true
 distinct_some f [] d = refl
