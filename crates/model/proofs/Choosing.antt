@@ -18,17 +18,15 @@ use Rattle.model.specs.Calls.{with_tx}
 use Rattle.model.specs.Traces.{Origin, Event, records_at}
 use Rattle.model.specs.Law.{holders}
 use Rattle.model.proofs.Moves.{claim_held}
-use Rattle.model.proofs.Cores.{among_by, TxGood, Core, core_change, core_tx, found, in_replaced, numbers_replaced, holders_replaced, holders_cons, bit}
+use Rattle.model.proofs.Cores.{among_by, TxGood, Core, core_change, core_tx, found, in_replaced, numbers_replaced, holders_replaced, bit}
 
 newest_from_among : (m : ℕ) (ms : List ℕ) → among (newest_from m ms) (m ∷ ms) ≡ true
 newest_from_among m [] = grind (arith, nat_tests)
-newest_from_among m (n ∷ ms) =
-    let ih = newest_from_among n ms in
-    ⊎_elim (λ less. let e : newest_from m (n ∷ ms) ≡ newest_from n ms = omega arith in or_right _ _ (ap (λ k. among k (n ∷ ms)) e ∙ ih)) (λ le. let e : newest_from m (n ∷ ms) ≡ m = omega arith in or_left _ _ (eq-eqb _ m e)) (cases_lt m (newest_from n ms))
+newest_from_among m (n ∷ ms) = let ih = newest_from_among n ms in grind (arith, nat_tests)
 
 pub newest_among : (ms : List ℕ) (m : ℕ) → newest_of ms ≡ Some m → among m ms ≡ true
 newest_among [] m e = cc
-newest_among (n ∷ ms) m e = let is : newest_from n ms ≡ m = cc in ap (λ k. among k (n ∷ ms)) (sym is) ∙ newest_from_among n ms
+newest_among (n ∷ ms) m e = let ih = newest_from_among n ms in grind (arith, nat_tests)
 
 -- the moments of the pins after the latest was pinned
 pub moments_map : (f : Pin → Pin) (pins : List Pin) → ((pin : Pin) → (f pin).moment ≡ pin.moment) → moments (map f pins) ≡ moments pins
@@ -123,9 +121,7 @@ latest_good p o h db db' pins pins' next L tx top pr same fewer keep in-pins goo
 
 pub holders_some : (m : ℕ) (t : Transaction) (txs : List Transaction) → Among t txs → among m t.holds ≡ true → 0 < holders m txs
 holders_some m t [] a b = absurd a
-holders_some m t (x ∷ txs) a b =
-    let c = holders_cons m x txs in
-    ⊎_elim (λ e. let w : bit m x ≡ 1 = cond-true (among m x.holds) 1 0 (ap (λ (y : Transaction). among m y.holds) (sym e) ∙ b) in omega arith) (λ d. let ih = holders_some m t txs d b in omega arith) a
+holders_some m t (x ∷ txs) a b = let ih = holders_some m t txs in grind (arith, nat_tests)
 
 -- the unused pin of lowest moment is an unused pin
 abbrev IsUnused : ℕ → List Pin → Type 0

@@ -69,10 +69,7 @@ same_key None (Some b) e = absurd (both_ways _ refl e)
 same_key None None e = refl
 
 same_tag : (one other : Tag) → is_tag one other ≡ true → one ≡ other
-same_tag one other e =
-    let parts = and_parts _ _ e in
-    let make : ℕ → Option ℕ → Tag = λ table key. record { table = table; key = key } in
-    ap (λ t. make t one.key) (eqb-true one.table other.table parts.0) ∙ ap (make other.table) (same_key one.key other.key parts.1)
+same_tag one other e = let keys = same_key one.key other.key in grind (arith, nat_tests)
 
 touched_append : (tag : Tag) (xs ys : List Tag) → touched tag (xs ++ ys) ≡ (touched tag xs || touched tag ys)
 touched_append tag [] ys = refl

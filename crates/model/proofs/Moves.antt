@@ -1,13 +1,13 @@
 -- How claims last over calls: over one that writes nothing, over pins that go, and over a write.
 use Rattle.std.proofs.Common.{◌≡◌, ℕ, ◌+◌, ◌≤◌, true, false, cond, ◌&&◌, leb, List, [], ◌∷◌, ◌++◌, Some, None, Option, sym, refl, ap, ◌∙◌, subst, inl, inr, ⊎_elim, arith}
 use Rattle.std.proofs.lemmas.Bool.Decides.{nat_tests}
-use Rattle.std.proofs.lemmas.Bool.{cases_Bool, both_ways, cond-true, cond-false, le-leb, lt-leb, and_from, or_cases, or_right, or_left, or_parts, eqb-true, eq-eqb}
+use Rattle.std.proofs.lemmas.Bool.{cases_Bool, cond-true, cond-false, le-leb, lt-leb, and_from, or_cases, or_right, or_left, or_parts, eqb-true, eq-eqb}
 use Rattle.terms.specs.declared.interval.Until.{Until}
 use Rattle.terms.specs.declared.interval.Until.TheVariants.{Ended, Open}
 use Rattle.terms.specs.declared.record.Change.{Change}
 use Rattle.terms.specs.declared.record.RecordId.{RecordId}
 use Rattle.terms.specs.declared.tag.Tag.{Tag}
-use Rattle.terms.specs.Records.{is_id, change_id, change_tag, one_tag}
+use Rattle.terms.specs.Records.{change_id, change_tag, one_tag}
 use Rattle.terms.specs.Tags.{touches, keys_touch}
 use Rattle.database.specs.States.{Records, Agree}
 use Rattle.database.specs.Writes.{put, changed}
@@ -104,12 +104,9 @@ touch_sym one other = let keys = keys_sym one.key other.key in grind (arith, nat
 put_agree : (c : Change) (tag : Tag) (s : Records) → touches (change_tag c) tag ≡ false → Agree tag s (put c s)
 put_agree c tag s no_touch t k e =
     let at : RecordId = record { table = t; key = k } in
-    ⊎_elim
-    (λ (is : is_id (change_id c) at ≡ true).
-    let same = ap one_tag (same_id (change_id c) at is) in
-    absurd (both_ways (touches (change_tag c) tag) no_touch (ap (λ x. touches x tag) same ∙ touch_sym (one_tag at) tag ∙ e)))
-    (λ (is : is_id (change_id c) at ≡ false). sym (cond-false (is_id (change_id c) at) _ _ is))
-    (cases_Bool (is_id (change_id c) at))
+    let same = same_id (change_id c) at in
+    let other = touch_sym (one_tag at) tag in
+    grind (arith, nat_tests)
 
 changes_agree : (cs : List Change) (tag : Tag) (s : Records) → ((c : Change) → Among c cs → touches (change_tag c) tag ≡ false) → Agree tag s (changed cs s)
 changes_agree [] tag s none t k e = refl
@@ -117,7 +114,7 @@ changes_agree (c ∷ cs) tag s none t k e = put_agree c tag s (none c (inl refl)
 
 touched_each : (tag : Tag) (tags : List Tag) (x : Tag) → touched tag tags ≡ false → Among x tags → touches tag x ≡ false
 touched_each tag [] x e a = absurd a
-touched_each tag (y ∷ tags) x e a = let parts = or_parts _ _ e in ⊎_elim (λ is. ap (touches tag) is ∙ parts.0) (λ b. touched_each tag tags x parts.1 b) a
+touched_each tag (y ∷ tags) x e a = let ih = touched_each tag tags x in grind (arith, nat_tests)
 
 agree_changes : (cs : List Change) (tags : List Tag) (s : Records) → ((c : Change) → Among c cs → touched (change_tag c) tags ≡ false) → AgreeAll tags s (changed cs s)
 agree_changes cs [] s none = tt

@@ -308,18 +308,12 @@ pin_among m (x ∷ pins) a = ⊎_elim (λ e. (x, inl refl, sym (eqb-true m x.mom
 
 split_moments : (f : Pin → Bool) (pins : List Pin) (m : ℕ) → distinct (moments pins) ≡ true → (among m (moments pins) && not (among m (moments (filter f pins)))) ≡ among m (moments (filter (λ pin. not (f pin)) pins))
 split_moments f pins m d =
-    ⊎_elim
-    (λ (a : among m (moments pins) ≡ true).
-    let w = pin_among m pins a in
-    let x = kept_moments f pins w.0 d w.1 in
-    let y = kept_moments (λ pin. not (f pin)) pins w.0 d w.1 in
-    let x' : among m (moments (filter f pins)) ≡ f w.0 = ap (λ k. among k (moments (filter f pins))) (sym w.2) ∙ x in
-    let y' : among m (moments (filter (λ pin. not (f pin)) pins)) ≡ not (f w.0) = ap (λ k. among k (moments (filter (λ pin. not (f pin)) pins))) (sym w.2) ∙ y in
-    ap (λ b. b && not (among m (moments (filter f pins)))) a ∙ ap not x' ∙ sym y')
-    (λ (a : among m (moments pins) ≡ false).
-    let z : among m (moments (filter (λ pin. not (f pin)) pins)) ≡ false = ⊎_elim (λ (e : among m (moments (filter (λ pin. not (f pin)) pins)) ≡ true). absurd (both_ways (among m (moments pins)) a (some_moments (λ pin. not (f pin)) pins m e))) (λ (e : among m (moments (filter (λ pin. not (f pin)) pins)) ≡ false). e) (cases_Bool (among m (moments (filter (λ pin. not (f pin)) pins)))) in
-    ap (λ b. b && not (among m (moments (filter f pins)))) a ∙ sym z)
-    (cases_Bool (among m (moments pins)))
+    let w = pin_among m pins in
+    let some = some_moments (λ pin. not (f pin)) pins m in
+    let had = some_moments f pins m in
+    let kept = λ (pin : Pin). kept_moments f pins pin d in
+    let rest = λ (pin : Pin). kept_moments (λ pin. not (f pin)) pins pin d in
+    grind (arith, nat_tests)
 
 pub sweep_core : (p : Rules) (o : Origin) (h : List Event) (e : Event) (now age : ℕ) (hall : Hall) (db : Db) (entries : List Entry) (lowest : ℕ) → Core p o h hall → Sound db → is_write e.reply ≡ false → e.given ≡ None
     → UnpinsEach (moments (filter (is_old now age) hall.books.pins)) hall.db db
