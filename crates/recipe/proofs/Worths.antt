@@ -14,8 +14,9 @@ use Rattle.database.specs.Databases.{Db, held, Sound}
 use Rattle.recipe.specs.declared.Turn.{Turn}
 use Rattle.recipe.specs.declared.Ask.TheVariants.{Query as Asked, Call, Done}
 use Rattle.recipe.specs.Recipes.{Rules, start, after, Runs, done, query, call, Ends, GivesWithin, Gives}
-use Rattle.recipe.specs.Evaluations.{Fails, Evaluates}
+use Rattle.recipe.specs.Evaluations.{Fails, WorksOut}
 use Rattle.recipe.specs.Sheets.{get_of, finish, narrow, claimed, attendant, count_of, counts, board, claim_of_door, claim_of_word, claim_of_ticket, claim_of, TallyOf, CountsOf, HasValue, Worth}
+use Rattle.recipe.proofs.Stepping.{evaluates}
 use Rattle.recipe.proofs.Runs.{same_end, clash_done, clash_call, clash_query, query_one, call_sheet, call_argument}
 
 -- a sheet that has a value within the depth fails only where the moment is not held
@@ -30,10 +31,10 @@ unheld db p m sheet argument depth fault value fails =
     (cases_Bool (held db m))
 
 -- so its value is worth having, and what is wrong is the moment
-pub only_unheld : (db : Db) (p : Rules) (m sheet argument depth : ℕ) (result : Result Reading Fault) → Evaluates db p m sheet argument depth result → HasValue db p m sheet argument depth
+pub only_unheld : (db : Db) (p : Rules) (m sheet argument depth : ℕ) (result : Result Reading Fault) → WorksOut db p m sheet argument depth result → HasValue db p m sheet argument depth
     → Worth db m (λ s r. GivesWithin p s depth sheet argument r) (result_or result (Err (NotHeld 0)))
-only_unheld db p m sheet argument depth (Ok r) gives value = gives
-only_unheld db p m sheet argument depth (Err fault) fails value = (unheld db p m sheet argument depth fault value fails, refl)
+only_unheld db p m sheet argument depth (Ok r) works value = evaluates db p m sheet argument depth (Ok r) works
+only_unheld db p m sheet argument depth (Err fault) works value = (unheld db p m sheet argument depth fault value (evaluates db p m sheet argument depth (Err fault) works), refl)
 
 -- what a value is worth, from its being the value
 worth_of : (db : Db) (p : Rules) (m sheet argument depth : ℕ) (Q : Records → Reading → Type 0) (result : Result Reading Fault) → ((r : Reading) → GivesWithin p (db.at m) depth sheet argument r → Q (db.at m) r)

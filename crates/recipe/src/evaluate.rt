@@ -1,8 +1,9 @@
 // The value of a sheet, worked out over a database without a cache.
 ghost use Rattle.std.specs.Prelude.{◌≡◌, suc, ◌<◌, ◌≤◌, IfOk, IfErr};
-ghost use Rattle.recipe.specs.Recipes.{table_of};
+ghost use Rattle.recipe.specs.Recipes.{table_of, GivesWithin};
 ghost use Rattle.terms.specs.Records.{known_table};
 ghost use Rattle.terms.specs.declared.fault.Fault.TheVariants.{SheetUnknown, TooDeep};
+ghost use Rattle.recipe.specs.Sheets.{HasValue, Worth};
 ghost use Rattle.recipe.specs.Evaluations.{ReadsAt, last_answer, WorksOut, Evaluates};
 
 use crate::{Ask, Point, Recipe};
@@ -37,10 +38,10 @@ fn below(depth: usize) -> Result<usize, Fault>
 
 // A recipe over a database, at a moment.
 #[derive(Drop)]
-struct Evaluation<'a, D, R> {
-    db: &'a D,
-    recipe: &'a R,
-    moment: Moment,
+pub(crate) struct Evaluation<'a, D, R> {
+    pub(crate) db: &'a D,
+    pub(crate) recipe: &'a R,
+    pub(crate) moment: Moment,
 }
 
 impl<D: Database, R: Recipe> Evaluation<'_, D, R> {
@@ -91,6 +92,16 @@ impl<D: Database, R: Recipe> Evaluation<'_, D, R> {
         }
         last_answer(self.recipe.next(point).ask)
     }
+
+    // A sheet that has a value at each held moment: only the moment can be wrong.
+    #[tactic(auto, using(crate::proofs::Worths::only_unheld))]
+    pub(crate) fn value(&self, sheet: u8, argument: u32, depth: usize) -> Result<Reading, Fault>
+        ensures { HasValue (D.view self.now.db.now) (R.rules self.now.recipe.now) self.now.moment sheet argument depth
+            → Worth (D.view self.now.db.now) self.now.moment (λ records reading. GivesWithin (R.rules self.now.recipe.now) records depth sheet argument reading) result }
+    {
+        self.sheet(sheet, argument, depth)
+            .or(Err(Fault::NotHeld { frames: 0 }))
+    }
 }
 
 // Works a sheet out at a held moment, with at most `depth` sheets above one another.
@@ -108,6 +119,5 @@ pub fn evaluate<D: Database, R: Recipe>(
     ensures exact { WorksOut (D.view db.now) (R.rules recipe.now) moment sheet argument depth result }
     ensures means { Evaluates (D.view db.now) (R.rules recipe.now) moment sheet argument depth result }
 {
-    let evaluation = Evaluation { db, recipe, moment };
-    evaluation.sheet(sheet, argument, depth)
+    Evaluation { db, recipe, moment }.sheet(sheet, argument, depth)
 }
