@@ -1,5 +1,6 @@
 -- Choosing the moment keeps what is carried.
-use Rattle.std.proofs.Common.{◌≡◌, ℕ, ◌+◌, ◌<◌, ◌≤◌, min, Bool, true, false, cond, not, ◌&&◌, ◌||◌, eqb, ◌⊎◌, List, [], ◌∷◌, map, Some, None, Option, sym, refl, ap, ◌∙◌, subst, inl, inr, ⊎_elim, arith}
+use Rattle.std.proofs.Common.{◌≡◌, ℕ, ◌+◌, ◌<◌, ◌≤◌, min, Bool, true, false, not, ◌&&◌, ◌||◌, eqb, ◌⊎◌, List, [], ◌∷◌, map, Some, None, Option, sym, refl, ap, ◌∙◌, subst, inl, inr, ⊎_elim, arith}
+use Rattle.std.proofs.lemmas.Option.{same_Some}
 use Rattle.std.proofs.lemmas.Bool.Decides.{nat_tests}
 use Rattle.std.proofs.lemmas.Bool.{cases_Bool, both_ways, cond-true, cond-false, le-leb, and_from, and_parts, or_cases, or_right, or_left, eqb-true, eqb-false, eq-eqb, ne_eqb, cases_lt, not_from_false}
 use Rattle.std.proofs.lemmas.List.{map-append}
@@ -17,55 +18,41 @@ use Rattle.model.specs.Calls.{with_tx}
 use Rattle.model.specs.Traces.{Origin, Event, records_at}
 use Rattle.model.specs.Law.{holders}
 use Rattle.model.proofs.Moves.{claim_held}
-use Rattle.model.proofs.Cores.{TxGood, Core, core_change, core_tx, found, in_replaced, numbers_replaced, holders_replaced, holders_cons, bit}
+use Rattle.model.proofs.Cores.{among_by, TxGood, Core, core_change, core_tx, found, in_replaced, numbers_replaced, holders_replaced, bit}
 
 newest_from_among : (m : ℕ) (ms : List ℕ) → among (newest_from m ms) (m ∷ ms) ≡ true
 newest_from_among m [] = grind (arith, nat_tests)
-newest_from_among m (n ∷ ms) =
-    let ih = newest_from_among n ms in
-    ⊎_elim (λ less. let e : newest_from m (n ∷ ms) ≡ newest_from n ms = omega arith in or_right _ _ (ap (λ k. among k (n ∷ ms)) e ∙ ih)) (λ le. let e : newest_from m (n ∷ ms) ≡ m = omega arith in or_left _ _ (eq-eqb _ m e)) (cases_lt m (newest_from n ms))
+newest_from_among m (n ∷ ms) = let ih = newest_from_among n ms in grind (arith, nat_tests)
 
 pub newest_among : (ms : List ℕ) (m : ℕ) → newest_of ms ≡ Some m → among m ms ≡ true
-newest_among [] m e = let z : ◌≡◌ {A = ℕ} 0 1 = cc in absurd (omega arith)
-newest_among (n ∷ ms) m e = let is : newest_from n ms ≡ m = cc in ap (λ k. among k (n ∷ ms)) (sym is) ∙ newest_from_among n ms
+newest_among [] m e = cc
+newest_among (n ∷ ms) m e = let ih = newest_from_among n ms in grind (arith, nat_tests)
 
 -- the moments of the pins after the latest was pinned
-renewed_moment : (L now : ℕ) (b : Bool) (pin : Pin) → (renewed L now b pin).moment ≡ pin.moment
-renewed_moment L now b pin = ⊎_elim (λ (e : eqb pin.moment L ≡ true). rw e (sym (eqb-true pin.moment L e))) (λ (e : eqb pin.moment L ≡ false). rw e refl) (cases_Bool (eqb pin.moment L))
+pub moments_map : (f : Pin → Pin) (pins : List Pin) → ((pin : Pin) → (f pin).moment ≡ pin.moment) → moments (map f pins) ≡ moments pins
+moments_map f [] same = refl
+moments_map f (pin ∷ pins) same = ap (λ m. m ∷ moments (map f pins)) (same pin) ∙ ap (λ ms. pin.moment ∷ ms) (moments_map f pins same)
 
-moments_renewed : (L now : ℕ) (b : Bool) (pins : List Pin) → moments (map (renewed L now b) pins) ≡ moments pins
-moments_renewed L now b [] = refl
-moments_renewed L now b (pin ∷ pins) = ap (λ m. m ∷ moments (map (renewed L now b) pins)) (renewed_moment L now b pin) ∙ ap (λ ms. pin.moment ∷ ms) (moments_renewed L now b pins)
+renewed_moment : (L now : ℕ) (b : Bool) (pin : Pin) → (renewed L now b pin).moment ≡ pin.moment
+renewed_moment L now b pin = grind (arith, nat_tests)
 
 pub moments_with : (L now : ℕ) (b : Bool) (pins : List Pin) → moments (pins_with L now b pins) ≡ added L (moments pins)
-moments_with L now b pins =
-    ⊎_elim
-    (λ (e : among L (moments pins) ≡ true). ap moments (cond-true (among L (moments pins)) _ _ e) ∙ moments_renewed L now b pins ∙ sym (cond-true (among L (moments pins)) _ _ e))
-    (λ (e : among L (moments pins) ≡ false). ap moments (cond-false (among L (moments pins)) _ _ e) ∙ map-append (λ (pin : Pin). pin.moment) pins (record { moment = L; time = now; uses = 1 } ∷ []) ∙ sym (cond-false (among L (moments pins)) _ _ e))
-    (cases_Bool (among L (moments pins)))
+moments_with L now b pins = let same = moments_map (renewed L now b) pins (renewed_moment L now b) in let new = map-append (λ (pin : Pin). pin.moment) pins (record { moment = L; time = now; uses = 1 } ∷ []) in grind (arith, nat_tests)
 
 distinct_added : (L : ℕ) (ms : List ℕ) → distinct ms ≡ true → distinct (added L ms) ≡ true
-distinct_added L ms d = ⊎_elim (λ (e : among L ms ≡ true). rw e d) (λ (e : among L ms ≡ false). rw e (distinct_push L ms d e)) (cases_Bool (among L ms))
+distinct_added L ms d = grind (arith, nat_tests, distinct_push)
 
 -- a moment that no transaction holds
 pub holders_none : (m : ℕ) (txs : List Transaction) → ((t : Transaction) → Among t txs → among m t.holds ≡ false) → holders m txs ≡ 0
 holders_none m [] none = refl
-holders_none m (t ∷ txs) none =
-    let ih = holders_none m txs (λ u a. none u (inr a)) in
-    let c = holders_cons m t txs in
-    let b : bit m t ≡ 0 = cond-false (among m t.holds) 1 0 (none t (inl refl)) in
-    omega arith
-
-pub pin_moment : (pin : Pin) (pins : List Pin) → Among pin pins → among pin.moment (moments pins) ≡ true
-pin_moment pin [] a = absurd a
-pin_moment pin (x ∷ pins) a = ⊎_elim (λ e. or_left _ _ (eq-eqb pin.moment x.moment (ap (λ (y : Pin). y.moment) e))) (λ b. or_right _ _ (pin_moment pin pins b)) a
+holders_none m (t ∷ txs) none = let ih = holders_none m txs (λ u a. none u (inr a)) in let here = none t (inl refl) in grind (arith, nat_tests)
 
 -- the uses after the latest was pinned for a transaction
 bit_other : (m L : ℕ) (tx : Transaction) → (m ≡ L → ⊥) → bit m (with_latest L tx) ≡ bit m tx
-bit_other m L tx ne = ap (λ b. cond {A = ℕ} b 1 0) (among_added m L tx.holds ∙ ap (λ b. b || among m tx.holds) (ne_eqb m L ne))
+bit_other m L tx ne = let e = among_added m L tx.holds in grind (arith, nat_tests)
 
 bit_latest : (L : ℕ) (tx : Transaction) → bit L (with_latest L tx) ≡ 1
-bit_latest L tx = ap (λ b. cond {A = ℕ} b 1 0) (among_added L L tx.holds ∙ or_left _ _ (eq-eqb L L refl))
+bit_latest L tx = let e = among_added L L tx.holds in grind (arith, nat_tests)
 
 with_uses : (L now : ℕ) (pins : List Pin) (txs : List Transaction) (tx : Transaction) → find tx.number txs ≡ Some tx → Among tx txs
     → ((pin : Pin) → Among pin pins → pin.uses ≡ holders pin.moment txs)
@@ -96,7 +83,7 @@ with_uses L now pins txs tx is own uses holds pin a =
     (cases_Bool (eqb x.moment L))))
     (λ (out : among L (moments pins) ≡ false).
     ⊎_elim
-    (λ old. other pin old (λ e. both_ways (among L (moments pins)) out (ap (λ m. among m (moments pins)) (sym e) ∙ pin_moment pin pins old)))
+    (λ old. other pin old (λ e. both_ways (among L (moments pins)) out (ap (λ m. among m (moments pins)) (sym e) ∙ among_by (λ (y : Pin). y.moment) pin pins old)))
     (λ new.
     let fresh : Pin = record { moment = L; time = now; uses = 1 } in
     let none : (t : Transaction) → Among t txs → among L t.holds ≡ false =
@@ -134,14 +121,9 @@ latest_good p o h db db' pins pins' next L tx top pr same fewer keep in-pins goo
 
 pub holders_some : (m : ℕ) (t : Transaction) (txs : List Transaction) → Among t txs → among m t.holds ≡ true → 0 < holders m txs
 holders_some m t [] a b = absurd a
-holders_some m t (x ∷ txs) a b =
-    let c = holders_cons m x txs in
-    ⊎_elim (λ e. let w : bit m x ≡ 1 = cond-true (among m x.holds) 1 0 (ap (λ (y : Transaction). among m y.holds) (sym e) ∙ b) in omega arith) (λ d. let ih = holders_some m t txs d b in omega arith) a
+holders_some m t (x ∷ txs) a b = let ih = holders_some m t txs in grind (arith, nat_tests)
 
 -- the unused pin of lowest moment is an unused pin
-some_nat : (a b : ℕ) → Some a ≡ Some b → a ≡ b
-some_nat a b e = cc
-
 abbrev IsUnused : ℕ → List Pin → Type 0
 IsUnused u pins = (pin : Pin) × Among pin pins × (pin.moment ≡ u) × (is_unused pin ≡ true)
 
@@ -154,20 +136,16 @@ lower_one pin pins (Some v) u free more is =
     (cases_lt pin.moment v)
 
 lowest_unused_is : (pins : List Pin) (u : ℕ) → lowest_unused pins ≡ Some u → IsUnused u pins
-lowest_unused_is [] u e = let z : ◌≡◌ {A = ℕ} 0 1 = cc in absurd (omega arith)
+lowest_unused_is [] u e = cc
 lowest_unused_is (pin ∷ pins) u e =
     ⊎_elim
-    (λ (free : is_unused pin ≡ true). lower_one pin pins (lowest_unused pins) u free (lowest_unused_is pins) (some_nat _ u (sym (cond-true (is_unused pin) _ _ free) ∙ e)))
+    (λ (free : is_unused pin ≡ true). lower_one pin pins (lowest_unused pins) u free (lowest_unused_is pins) (same_Some _ u (sym (cond-true (is_unused pin) _ _ free) ∙ e)))
     (λ (busy : is_unused pin ≡ false). let w = lowest_unused_is pins u (sym (cond-false (is_unused pin) _ _ busy) ∙ e) in (w.0, inr w.1, w.2, w.3))
     (cases_Bool (is_unused pin))
 
 moments_without : (u : ℕ) (pins : List Pin) → moments (without_pin u pins) ≡ without u (moments pins)
 moments_without u [] = refl
-moments_without u (pin ∷ pins) =
-    ⊎_elim
-    (λ (e : eqb pin.moment u ≡ true). rw e (moments_without u pins))
-    (λ (e : eqb pin.moment u ≡ false). rw e (ap (λ ms. pin.moment ∷ ms) (moments_without u pins)))
-    (cases_Bool (eqb pin.moment u))
+moments_without u (pin ∷ pins) = let ih = moments_without u pins in grind (arith, nat_tests)
 
 -- what choosing leaves
 pub record Picked (p : Rules) (o : Origin) (h : List Event) (hall : Hall) (tx : Transaction) (m : ℕ) (db' : Db) (pins' : List Pin) (tx' : Transaction) : Type 0 where

@@ -1,6 +1,7 @@
 -- What an interval with tags claims of the records of its moments, and how claims are kept, joined and used.
 use Rattle.std.proofs.Common.{◌≡◌, ℕ, ◌+◌, ◌<◌, ◌≤◌, min, max, Bool, true, false, cond, ◌||◌, leb, ◌⊎◌, List, [], ◌∷◌, ◌++◌, length, Some, None, Option, sym, refl, ap, ◌∙◌, subst, inl, inr, ⊎_elim, arith}
-use Rattle.std.proofs.lemmas.Bool.{cases_Bool, both_ways, leb-true, leb-false, le-leb, ltb-true, lt-ltb, and_from, and_parts, or_cases, or_from, or_parts, eqb-true}
+use Rattle.std.proofs.lemmas.Bool.Decides.{nat_tests}
+use Rattle.std.proofs.lemmas.Bool.{cases_Bool, both_ways, leb-true, leb-false, le-leb, ltb-true, lt-ltb, and_from, and_parts, or_cases, eqb-true}
 use Rattle.terms.specs.declared.interval.Until.{Until}
 use Rattle.terms.specs.declared.interval.Until.TheVariants.{Ended, Open}
 use Rattle.terms.specs.declared.tag.Tag.{Tag}
@@ -11,6 +12,7 @@ use Rattle.database.specs.Databases.{Db, held}
 use Rattle.cache.specs.Lists.{Among}
 use Rattle.cache.specs.TagSets.{touched, has_tag, is_tag, same_keys}
 use Rattle.recipe.specs.Recipes.{AgreeAll}
+use Rattle.recipe.proofs.Runs.{agree_split}
 use Rattle.model.specs.Books.{Part, Row}
 use Rattle.model.specs.Rules.{meet, meet_until, join_tags, fitting, bearing}
 use Rattle.model.specs.Traces.{Origin, Event, records_at, rows_of}
@@ -67,10 +69,7 @@ same_key None (Some b) e = absurd (both_ways _ refl e)
 same_key None None e = refl
 
 same_tag : (one other : Tag) → is_tag one other ≡ true → one ≡ other
-same_tag one other e =
-    let parts = and_parts _ _ e in
-    let make : ℕ → Option ℕ → Tag = λ table key. record { table = table; key = key } in
-    ap (λ t. make t one.key) (eqb-true one.table other.table parts.0) ∙ ap (make other.table) (same_key one.key other.key parts.1)
+same_tag one other e = let keys = same_key one.key other.key in grind (arith, nat_tests)
 
 touched_append : (tag : Tag) (xs ys : List Tag) → touched tag (xs ++ ys) ≡ (touched tag xs || touched tag ys)
 touched_append tag [] ys = refl
@@ -78,18 +77,13 @@ touched_append tag (x ∷ xs) ys = let ih = touched_append tag xs ys in grind ar
 
 touched_has : (tag y : Tag) (xs : List Tag) → has_tag y xs ≡ true → touched tag xs ≡ false → touches tag y ≡ false
 touched_has tag y [] has e = absurd (both_ways _ refl has)
-touched_has tag y (x ∷ xs) has e =
-    let parts = or_parts _ _ e in
-    ⊎_elim (λ t. ap (touches tag) (same_tag y x t) ∙ parts.0) (λ t. touched_has tag y xs t parts.1) (or_cases _ _ has)
+touched_has tag y (x ∷ xs) has e = let ih = touched_has tag y xs in let same = same_tag y x in grind (arith, nat_tests)
 
 -- what is not touched with more tags is not with fewer
 join_left : (tag : Tag) (xs ys : List Tag) → touched tag (join_tags xs ys) ≡ false → touched tag xs ≡ false
 join_left tag xs [] e = e
 join_left tag xs (y ∷ ys) e =
-    let ih = join_left tag (cond (has_tag y xs) xs (xs ++ y ∷ [])) ys e in
-    ⊎_elim (λ (t : has_tag y xs ≡ true). ap (λ b. touched tag (cond b xs (xs ++ y ∷ []))) (sym t) ∙ ih)
-    (λ (t : has_tag y xs ≡ false). (or_parts _ _ (sym (touched_append tag xs (y ∷ [])) ∙ ap (λ b. touched tag (cond b xs (xs ++ y ∷ []))) (sym t) ∙ ih)).0)
-    (cases_Bool (has_tag y xs))
+    let ih = join_left tag (cond (has_tag y xs) xs (xs ++ y ∷ [])) ys e in let more = touched_append tag xs (y ∷ []) in grind (arith, nat_tests)
 
 join_right : (tag : Tag) (xs ys : List Tag) → touched tag (join_tags xs ys) ≡ false → touched tag ys ≡ false
 join_right tag xs [] e = refl
@@ -97,15 +91,9 @@ join_right tag xs (y ∷ ys) e =
     let more = cond (has_tag y xs) xs (xs ++ y ∷ []) in
     let rest = join_right tag more ys e in
     let here = join_left tag more ys e in
-    let one : touches tag y ≡ false =
-    ⊎_elim (λ (t : has_tag y xs ≡ true). touched_has tag y xs t (join_left tag xs (y ∷ ys) e))
-    (λ (t : has_tag y xs ≡ false). (or_parts _ _ (or_parts _ _ (sym (touched_append tag xs (y ∷ [])) ∙ ap (λ b. touched tag (cond b xs (xs ++ y ∷ []))) (sym t) ∙ here)).1).0)
-    (cases_Bool (has_tag y xs)) in
-    or_from _ _ one rest
-
-agree_split : (xs ys : List Tag) (s z : Records) → AgreeAll (xs ++ ys) s z → AgreeAll xs s z × AgreeAll ys s z
-agree_split [] ys s z a = (tt, a)
-agree_split (x ∷ xs) ys s z a = let rest = agree_split xs ys s z a.1 in ((a.0, rest.0), rest.1)
+    let has = touched_has tag y xs in
+    let append = touched_append tag xs (y ∷ []) in
+    grind (arith, nat_tests)
 
 agree_has : (y : Tag) (xs : List Tag) (s z : Records) → has_tag y xs ≡ true → AgreeAll xs s z → Agree y s z
 agree_has y [] s z has a = absurd (both_ways _ refl has)
@@ -174,7 +162,7 @@ claim_meet o h db a b P Q c d = record {
 
 -- a moment of both parts is one of what they have in common
 fits_reaches : (xs : List Tag) (t m : ℕ) → m ≤ t → reaches (fitting (Open t) xs) m ≡ true
-fits_reaches xs t m l = ⊎_elim (λ (e : leb (length xs) 8 ≡ true). rw e (le-leb m t l)) (λ (e : leb (length xs) 8 ≡ false). rw e (lt-ltb m (t + 1) (omega arith))) (cases_Bool (leb (length xs) 8))
+fits_reaches xs t m l = grind (arith, nat_tests)
 
 meet_reaches : (xs : List Tag) (a b : Until) (m : ℕ) → reaches a m ≡ true → reaches b m ≡ true → reaches (fitting (meet_until a b) xs) m ≡ true
 meet_reaches xs (Open t) (Open u) m r q = let x = leb-true m t r in let y = leb-true m u q in fits_reaches xs (min t u) m (omega arith)

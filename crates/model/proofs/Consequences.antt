@@ -1,12 +1,12 @@
 -- What follows from the law: halls agree, and no call meets a moment that is not held.
-use Rattle.std.proofs.Common.{◌≡◌, ℕ, ◌+◌, Bool, true, false, cond, eqb, ltb, leb, ◌⊎◌, List, [], ◌∷◌, ◌++◌, length, Some, None, Option, sym, refl, ap, ◌∙◌, subst, inl, inr, ⊎_elim}
+use Rattle.std.proofs.Common.{◌≡◌, ℕ, ◌+◌, Bool, true, false, cond, eqb, ltb, leb, ◌⊎◌, List, [], ◌∷◌, ◌++◌, length, Some, None, Option, sym, refl, ap, ◌∙◌, subst, inl, inr, ⊎_elim, Ok, Err}
 use Rattle.std.proofs.lemmas.Bool.{both_ways, or_left, eq-eqb}
 use Rattle.terms.specs.declared.record.Change.{Change}
 use Rattle.terms.specs.declared.record.Query.{Query}
 use Rattle.terms.specs.declared.tag.Tag.{Tag}
 use Rattle.terms.specs.declared.fault.Fault.{Fault}
-use Rattle.terms.specs.declared.fault.Fault.TheVariants.{NotOpen, TooManyOpen, LimitTooLong, NumbersUsedUp, FramesOpen, NoFrame, QueryTable, SheetUnknown, TooDeep, NeverDone, RecipeTable, NoPin, NotHeld, NoChange, TooManyChanges, RecordRepeated, ChangeTable, MomentsUsedUp, StreamFull, StoreFull, StreamEmpty, OutOfRange, OutOfMemory}
 use Rattle.terms.specs.Moments.{highest}
+use Rattle.terms.specs.Faults.{number_of}
 use Rattle.terms.specs.Records.{Reading, known_table, change_id}
 use Rattle.database.specs.States.{Records}
 use Rattle.database.specs.Writes.{names, wrong_change, wrong_list, or_else}
@@ -16,11 +16,9 @@ use Rattle.recipe.specs.Recipes.{Rules, AgreeAll, table_of}
 use Rattle.recipe.proofs.Runs.{value_is_one, value_rests}
 use Rattle.model.specs.declared.call.Call.{Call}
 use Rattle.model.specs.declared.call.Call.TheVariants.{Begin, Sheet, Step, Query as Directly, Commit, Abort, Write, Deliver, Sweep}
-use Rattle.model.specs.declared.call.Reply.{Reply}
-use Rattle.model.specs.declared.call.Reply.TheVariants.{Began, Read, Open, Committed, Aborted, Written, Delivered, Swept, Refused}
 use Rattle.model.specs.Books.{Pin, Transaction, Row, Hall, find, newest_of}
 use Rattle.model.specs.Rules.{Picks, taken, pinned, gave_up, kept}
-use Rattle.model.specs.Calls.{Question, of_query, of_sheet, Does, has_frames, sheet_refusal, query_refusal, step_refusal, end_refusal, deliver_refusal, refusal_of}
+use Rattle.model.specs.Calls.{Outcome, Question, of_query, of_sheet, Does, has_frames, sheet_refusal, query_refusal, step_refusal, end_refusal, deliver_refusal, refusal_of}
 use Rattle.model.specs.Calls as calls
 use Rattle.model.specs.Traces.{Origin, Event, records_at}
 use Rattle.model.specs.Law.{Right, HallsAgree, AlwaysHeld}
@@ -48,44 +46,15 @@ halls_agree rules o p one other hall hall' lives lives' tx tx' a a' given given'
 
 -- no refusal before a call does anything is 32
 abbrev unheld : Fault → Bool
-unheld NotOpen = false
-unheld TooManyOpen = false
-unheld LimitTooLong = false
-unheld NumbersUsedUp = false
-unheld FramesOpen = false
-unheld NoFrame = false
-unheld QueryTable = false
-unheld (SheetUnknown frames) = false
-unheld (TooDeep frames) = false
-unheld (NeverDone frames) = false
-unheld (RecipeTable frames) = false
-unheld (NoPin frames) = false
-unheld (NotHeld frames) = true
-unheld NoChange = false
-unheld TooManyChanges = false
-unheld (RecordRepeated index) = false
-unheld (ChangeTable index) = false
-unheld MomentsUsedUp = false
-unheld StreamFull = false
-unheld StoreFull = false
-unheld StreamEmpty = false
-unheld OutOfRange = false
-unheld OutOfMemory = false
+unheld fault = eqb (number_of fault) 32
 
 abbrev is32 : Option Fault → Bool
 is32 None = false
 is32 (Some fault) = unheld fault
 
-abbrev says32 : Reply → Bool
-says32 (Began number moments) = false
-says32 (Read reading) = false
-says32 Open = false
-says32 (Committed moment) = false
-says32 Aborted = false
-says32 (Written moment) = false
-says32 (Delivered moment) = false
-says32 (Swept pins) = false
-says32 (Refused fault) = unheld fault
+abbrev says32 : Outcome → Bool
+says32 (Ok reply) = false
+says32 (Err fault) = unheld fault
 
 branch : (b : Bool) (x y : Option Fault) → is32 x ≡ false → is32 y ≡ false → is32 (cond b x y) ≡ false
 branch true x y p q = p
@@ -146,7 +115,7 @@ picked_held rules o h hall db' pins' tx tx' number now m core is picks =
     ⊎_elim (λ e. or_left _ _ (eq-eqb m hall.db.latest e)) (λ new. set_held rules o h hall tx m core (core.txs tx (found number hall.books.txs tx is).0) (newest_among tx.set m new))
     (picked_one hall.db hall.books.pins tx now m db' pins' tx' picks)
 
-never_32 : (rules : Rules) (o : Origin) (h : List Event) (hall hall' : Hall) (call : Call) (changes : List Change) (reply : Reply) (given : Option calls.Given) → Core rules o h hall → Does rules hall call changes reply given hall' → says32 reply ≡ false
+never_32 : (rules : Rules) (o : Origin) (h : List Event) (hall hall' : Hall) (call : Call) (changes : List Change) (reply : Outcome) (given : Option calls.Given) → Core rules o h hall → Does rules hall call changes reply given hall' → says32 reply ≡ false
 never_32 rules o h hall hall' call changes reply given core (calls.Does.refused cl cs fault is) = ap is32 (sym is) ∙ refusal_32 rules hall cs cl
 never_32 rules o h hall hall' call changes reply given core (calls.Does.began now limit is) = refl
 never_32 rules o h hall hall' call changes reply given core (calls.Does.hit number sheet argument tx entry entries is shut there looks same) = refl

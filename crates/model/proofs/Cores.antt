@@ -1,6 +1,8 @@
 -- What is carried from call to call.
-use Rattle.std.proofs.Common.{◌≡◌, ℕ, ◌+◌, ◌<◌, ◌≤◌, true, false, cond, eqb, ltb, ◌⊎◌, List, [], ◌∷◌, Some, None, filter, sym, refl, ap, ◌∙◌, subst, inl, inr, ⊎_elim, arith}
-use Rattle.std.proofs.lemmas.Bool.{cases_Bool, both_ways, cond-true, cond-false, and_parts, or_right, or_left, eqb-true, eqb-false, eq-eqb, not-true}
+use Rattle.std.proofs.Common.{◌≡◌, ℕ, ◌+◌, ◌<◌, ◌≤◌, true, false, cond, ltb, ◌⊎◌, List, [], ◌∷◌, map, Some, None, filter, sym, refl, ap, ◌∙◌, subst, inl, inr, ⊎_elim, arith}
+use Rattle.std.proofs.lemmas.Option.{none-some}
+use Rattle.std.proofs.lemmas.Bool.Decides.{nat_tests}
+use Rattle.std.proofs.lemmas.Bool.{or_right, or_left, eq-eqb}
 use Rattle.terms.specs.Intervals.{contains}
 use Rattle.database.specs.Lists.{among, distinct}
 use Rattle.database.specs.States.{Records}
@@ -67,56 +69,28 @@ core_entries p o h hall entries core good = record {
 }
 
 -- transactions
-pub some_tx : (one other : Transaction) → Some one ≡ Some other → one ≡ other
-some_tx one other e = cc
-
-pub none_tx : (tx : Transaction) → None ≡ Some tx → ⊥
-none_tx tx e = let z : ◌≡◌ {A = ℕ} 0 1 = cc in omega arith
-
 pub found : (n : ℕ) (txs : List Transaction) (tx : Transaction) → find n txs ≡ Some tx → Among tx txs × (tx.number ≡ n)
-found n [] tx e = absurd (none_tx tx e)
-found n (t ∷ txs) tx e =
-    ⊎_elim
-    (λ (is : eqb n t.number ≡ true). let same = some_tx t tx (sym (cond-true (eqb n t.number) _ _ is) ∙ e) in (inl (sym same), ap (λ (x : Transaction). x.number) (sym same) ∙ sym (eqb-true n t.number is)))
-    (λ (is : eqb n t.number ≡ false). let rest = found n txs tx (sym (cond-false (eqb n t.number) _ _ is) ∙ e) in (inr rest.0, rest.1))
-    (cases_Bool (eqb n t.number))
+found n [] tx e = absurd (none-some tx e)
+found n (t ∷ txs) tx e = let ih = found n txs tx in grind (arith, nat_tests)
 
 -- what stands after one was replaced
 pub in_replaced : (tx' : Transaction) (txs : List Transaction) (t : Transaction) → Among t (replaced tx' txs) → (t ≡ tx') ⊎ Among t txs
 in_replaced tx' [] t a = absurd a
-in_replaced tx' (x ∷ txs) t a =
-    ⊎_elim
-    (λ (is : eqb tx'.number x.number ≡ true). ⊎_elim inl (λ b. inr (inr b)) (subst (Among t) (cond-true (eqb tx'.number x.number) _ _ is) a))
-    (λ (is : eqb tx'.number x.number ≡ false). ⊎_elim (λ e. inr (inl e)) (λ b. ⊎_elim inl (λ c. inr (inr c)) (in_replaced tx' txs t b)) (subst (Among t) (cond-false (eqb tx'.number x.number) _ _ is) a))
-    (cases_Bool (eqb tx'.number x.number))
+in_replaced tx' (x ∷ txs) t a = let ih = in_replaced tx' txs t in grind (arith, nat_tests)
 
 pub numbers_replaced : (tx' : Transaction) (txs : List Transaction) → numbers (replaced tx' txs) ≡ numbers txs
 numbers_replaced tx' [] = refl
-numbers_replaced tx' (x ∷ txs) =
-    ⊎_elim
-    (λ (is : eqb tx'.number x.number ≡ true). ap numbers (cond-true (eqb tx'.number x.number) _ _ is) ∙ ap (λ n. n ∷ numbers txs) (eqb-true tx'.number x.number is))
-    (λ (is : eqb tx'.number x.number ≡ false). ap numbers (cond-false (eqb tx'.number x.number) _ _ is) ∙ ap (λ ns. x.number ∷ ns) (numbers_replaced tx' txs))
-    (cases_Bool (eqb tx'.number x.number))
+numbers_replaced tx' (x ∷ txs) = let ih = numbers_replaced tx' txs in grind (arith, nat_tests)
 
-pub among_number : (t : Transaction) (txs : List Transaction) → Among t txs → among t.number (numbers txs) ≡ true
-among_number t [] a = absurd a
-among_number t (x ∷ txs) a = ⊎_elim (λ is. or_left _ _ (eq-eqb t.number x.number (ap (λ (y : Transaction). y.number) is))) (λ b. or_right _ _ (among_number t txs b)) a
+-- an element's number is among the numbers of the list
+pub among_by : {X : Type 0} (f : X → ℕ) (x : X) (xs : List X) → Among x xs → among (f x) (map f xs) ≡ true
+among_by f x [] a = absurd a
+among_by f x (y ∷ xs) a = ⊎_elim (λ is. or_left _ _ (eq-eqb (f x) (f y) (ap f is))) (λ b. or_right _ _ (among_by f x xs b)) a
 
 -- a number is that of one transaction
 pub only_one : (n : ℕ) (txs : List Transaction) (tx t : Transaction) → distinct (numbers txs) ≡ true → find n txs ≡ Some tx → Among t txs → t.number ≡ n → t ≡ tx
 only_one n [] tx t d e a is = absurd a
-only_one n (x ∷ txs) tx t d e a is =
-    let parts = and_parts _ _ d in
-    ⊎_elim
-    (λ (here : eqb n x.number ≡ true).
-    let same = some_tx x tx (sym (cond-true (eqb n x.number) _ _ here) ∙ e) in
-    ⊎_elim (λ top. top ∙ same)
-    (λ b. let clash : among x.number (numbers txs) ≡ true = ap (λ k. among k (numbers txs)) (sym (eqb-true n x.number here) ∙ sym is) ∙ among_number t txs b in
-    absurd (both_ways (among x.number (numbers txs)) (not-true _ parts.0) clash)) a)
-    (λ (here : eqb n x.number ≡ false).
-    ⊎_elim (λ top. absurd (eqb-false n x.number here (sym is ∙ ap (λ (y : Transaction). y.number) top)))
-    (λ b. only_one n txs tx t parts.1 (sym (cond-false (eqb n x.number) _ _ here) ∙ e) b is) a)
-    (cases_Bool (eqb n x.number))
+only_one n (x ∷ txs) tx t d e a is = let ih = only_one n txs tx t in let own = among_by (λ (y : Transaction). y.number) t txs in grind (arith, nat_tests)
 
 -- a call that writes nothing, and gives nothing or what is right
 pub stack_skip : (p : Rules) (o : Origin) (h : List Event) (e : Event) (db : Db) (frames : List Frame) → is_write e.reply ≡ false → Stack p o h db frames → Stack p o (e ∷ h) db frames
@@ -161,10 +135,7 @@ core_append p o h e hall w gives core = record {
 }
 
 pub gives_nothing : (p : Rules) (o : Origin) (h : List Event) (e : Event) (next : ℕ) (txs : List Transaction) → e.given ≡ None → GivesRight p o h e next txs
-gives_nothing p o h e next txs none given is = absurd (none-given given (sym none ∙ is))
-  where
-    none-given : (g : Given) → None ≡ Some g → ⊥
-    none-given g e = let z : ◌≡◌ {A = ℕ} 0 1 = cc in omega arith
+gives_nothing p o h e next txs none given is = absurd (none-some given (sym none ∙ is))
 
 -- database, pins and transactions change, the latest moment stays, and no more is held than before
 tx_change : (p : Rules) (o : Origin) (h : List Event) (db db' : Db) (pins pins' : List Pin) (next : ℕ) (tx : Transaction) → db'.latest ≡ db.latest → ((m : ℕ) → held db' m ≡ true → held db m ≡ true)
@@ -210,41 +181,15 @@ abbrev pub bit : ℕ → Transaction → ℕ
 bit m tx = cond (among m tx.holds) 1 0
 
 pub holders_cons : (m : ℕ) (tx : Transaction) (txs : List Transaction) → holders m (tx ∷ txs) ≡ bit m tx + holders m txs
-holders_cons m tx txs = ⊎_elim (λ (e : among m tx.holds ≡ true). rw e (omega arith)) (λ (e : among m tx.holds ≡ false). rw e (omega arith)) (cases_Bool (among m tx.holds))
+holders_cons m tx txs = grind (arith, nat_tests)
 
 pub holders_replaced : (m : ℕ) (tx tx' : Transaction) (txs : List Transaction) → find tx'.number txs ≡ Some tx → holders m (replaced tx' txs) + bit m tx ≡ holders m txs + bit m tx'
-holders_replaced m tx tx' [] e = absurd (none_tx tx e)
-holders_replaced m tx tx' (x ∷ txs) e =
-    ⊎_elim
-    (λ (is : eqb tx'.number x.number ≡ true).
-    let same = some_tx x tx (sym (cond-true (eqb tx'.number x.number) _ _ is) ∙ e) in
-    let a = ap (holders m) (cond-true (eqb tx'.number x.number) (tx' ∷ txs) (x ∷ replaced tx' txs) is) in
-    let b = holders_cons m tx' txs in let c = holders_cons m x txs in
-    let d = ap (bit m) same in
-    omega arith)
-    (λ (is : eqb tx'.number x.number ≡ false).
-    let ih = holders_replaced m tx tx' txs (sym (cond-false (eqb tx'.number x.number) _ _ is) ∙ e) in
-    let a = ap (holders m) (cond-false (eqb tx'.number x.number) (tx' ∷ txs) (x ∷ replaced tx' txs) is) in
-    let b = holders_cons m x (replaced tx' txs) in let c = holders_cons m x txs in
-    omega arith)
-    (cases_Bool (eqb tx'.number x.number))
+holders_replaced m tx tx' [] e = absurd (none-some tx e)
+holders_replaced m tx tx' (x ∷ txs) e = let ih = holders_replaced m tx tx' txs in grind (arith, nat_tests)
 
 pub holders_removed : (m n : ℕ) (tx : Transaction) (txs : List Transaction) → find n txs ≡ Some tx → holders m (removed n txs) + bit m tx ≡ holders m txs
-holders_removed m n tx [] e = absurd (none_tx tx e)
-holders_removed m n tx (x ∷ txs) e =
-    ⊎_elim
-    (λ (is : eqb n x.number ≡ true).
-    let same = some_tx x tx (sym (cond-true (eqb n x.number) _ _ is) ∙ e) in
-    let a = ap (holders m) (cond-true (eqb n x.number) txs (x ∷ removed n txs) is) in
-    let c = holders_cons m x txs in
-    let d = ap (bit m) same in
-    omega arith)
-    (λ (is : eqb n x.number ≡ false).
-    let ih = holders_removed m n tx txs (sym (cond-false (eqb n x.number) _ _ is) ∙ e) in
-    let a = ap (holders m) (cond-false (eqb n x.number) txs (x ∷ removed n txs) is) in
-    let b = holders_cons m x (removed n txs) in let c = holders_cons m x txs in
-    omega arith)
-    (cases_Bool (eqb n x.number))
+holders_removed m n tx [] e = absurd (none-some tx e)
+holders_removed m n tx (x ∷ txs) e = let ih = holders_removed m n tx txs in grind (arith, nat_tests)
 
 -- one transaction changes, and holds what it held
 pub core_tx : (p : Rules) (o : Origin) (h : List Event) (hall : Hall) (tx tx' : Transaction) → Core p o h hall → find tx'.number hall.books.txs ≡ Some tx → tx'.holds ≡ tx.holds

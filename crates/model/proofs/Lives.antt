@@ -1,6 +1,7 @@
 -- The law stands after every list of calls.
-use Rattle.std.proofs.Common.{◌≡◌, ℕ, ◌+◌, Bool, true, false, cond, not, ◌&&◌, ◌||◌, eqb, List, [], ◌∷◌, length, Some, None, Option, sym, refl, ap, ◌∙◌, subst, ⊎_elim, arith}
-use Rattle.std.proofs.lemmas.Bool.{cases_Bool, both_ways, cond-true, cond-false, or_cases, eqb-true}
+use Rattle.std.proofs.Common.{◌≡◌, ℕ, ◌+◌, Bool, true, false, cond, not, ◌&&◌, ◌||◌, eqb, List, [], ◌∷◌, length, Some, None, Option, sym, refl, ap, ◌∙◌, subst, ⊎_elim, arith, Ok}
+use Rattle.std.proofs.lemmas.Bool.Decides.{nat_tests}
+use Rattle.std.proofs.lemmas.Bool.{both_ways, cond-false, or_cases, eqb-true}
 use Rattle.std.proofs.lemmas.List.{length-map}
 use Rattle.terms.specs.declared.record.Change.{Change}
 use Rattle.database.specs.Lists.{among, distinct, without}
@@ -10,15 +11,14 @@ use Rattle.cache.specs.Lists.{Among}
 use Rattle.recipe.specs.Recipes.{Rules}
 use Rattle.model.specs.declared.call.Call.{Call}
 use Rattle.model.specs.declared.call.Call.TheVariants.{Write}
-use Rattle.model.specs.declared.call.Reply.{Reply}
 use Rattle.model.specs.declared.call.Reply.TheVariants.{Written as Wrote}
 use Rattle.model.specs.Books.{Transaction, Books, Hall, find, removed, moments}
-use Rattle.model.specs.Calls.{Given, Does, Makes}
+use Rattle.model.specs.Calls.{Outcome, Given, Does, Makes}
 use Rattle.model.specs.Calls as calls
 use Rattle.model.specs.Traces.{Origin, Event, is_write, Lives}
 use Rattle.model.specs.Traces as traces
 use Rattle.model.specs.Law.{numbers, how_many, is_begin, is_commit, is_abort, is_open_in, starts, finishes}
-use Rattle.model.proofs.Cores.{Core, among_number, core_append, gives_nothing, found, numbers_replaced}
+use Rattle.model.proofs.Cores.{Core, among_by, core_append, gives_nothing, found, numbers_replaced}
 use Rattle.model.proofs.Asked.{hit_core, miss_core, queried_core, dropped_core, found_at, same_entries}
 use Rattle.model.proofs.Stepped.{step_query_core, step_hit_core, step_miss_core, step_done_core, step_last_core}
 use Rattle.model.proofs.Turns.{begin_core, end_core, write_core, deliver_core, sweep_core, numbers_removed}
@@ -28,7 +28,7 @@ unchanged : (p : Rules) (o : Origin) (h : List Event) (e : Event) (hall : Hall) 
 unchanged p o h e hall w none core = core_append p o h e hall w (gives_nothing p o h e hall.books.next hall.books.txs none) core
 
 -- each call keeps what is carried
-does_core : (p : Rules) (o : Origin) (h : List Event) (hall hall' : Hall) (call : Call) (changes : List Change) (reply : Reply) (given : Option Given) → Core p o h hall → Sound hall'.db → Does p hall call changes reply given hall'
+does_core : (p : Rules) (o : Origin) (h : List Event) (hall hall' : Hall) (call : Call) (changes : List Change) (reply : Outcome) (given : Option Given) → Core p o h hall → Sound hall'.db → Does p hall call changes reply given hall'
     → Core p o (record { call = call; changes = changes; reply = reply; given = given } ∷ h) hall'
 does_core p o h hall hall' call changes reply given core sound (calls.Does.refused c cs fault is) =
     unchanged p o h _ hall refl refl core
@@ -54,7 +54,7 @@ does_core p o h hall hall' call changes reply given core sound (calls.Does.step_
 does_core p o h hall hall' call changes reply given core sound (calls.Does.step_last number now reading tx frame entries is fr asked enters) = step_last_core p o h number now reading hall tx frame entries core is fr asked enters
 does_core p o h hall hall' call changes reply given core sound (calls.Does.committed number tx is) = end_core p o h number hall tx _ core is refl refl
 does_core p o h hall hall' call changes reply given core sound (calls.Does.aborted number tx is) = end_core p o h number hall tx _ core is refl refl
-does_core p o h hall hall' call changes reply given core sound (calls.Does.wrote cs moment db is written) = write_core p o h (record { call = Write; changes = cs; reply = Wrote moment; given = None }) moment hall db core sound refl refl written
+does_core p o h hall hall' call changes reply given core sound (calls.Does.wrote cs moment db is written) = write_core p o h (record { call = Write; changes = cs; reply = Ok (Wrote moment); given = None }) moment hall db core sound refl refl written
 does_core p o h hall hall' call changes reply given core sound (calls.Does.delivered row rows entries first closes) = deliver_core p o h _ hall row rows entries core refl refl first closes
 does_core p o h hall hall' call changes reply given core sound (calls.Does.swept now age db entries unpins drops) = sweep_core p o h _ now age hall db entries _ core sound refl refl unpins drops
 
@@ -88,7 +88,7 @@ pub record Counts (h : List Event) (txs : List Transaction) : Type 0 where
   pub counted : how_many is_begin h ≡ (how_many is_commit h + how_many is_abort h) + length txs
   pub exactly : (n : ℕ) → among n (numbers txs) ≡ is_open_in n h
 
-abbrev Neutral : Call → Reply → Type 0
+abbrev Neutral : Call → Outcome → Type 0
 Neutral call reply = (is_begin reply ≡ false) × (is_commit reply ≡ false) × (is_abort reply ≡ false) × ((n : ℕ) → starts n reply ≡ false) × ((n : ℕ) → finishes n call reply ≡ false)
 
 same_length : (one other : List Transaction) → numbers one ≡ numbers other → length one ≡ length other
@@ -105,34 +105,19 @@ counts_same h e txs txs' neutral same c = record {
 }
 
 shut : (a b : Bool) → (a && not b) ≡ cond b false a
-shut true true = refl
-shut true false = refl
-shut false true = refl
-shut false false = refl
+shut a b = grind arith
 
 counts_end : (h : List Event) (e : Event) (n : ℕ) (tx : Transaction) (txs : List Transaction) → (cond (is_commit e.reply) true (is_abort e.reply) ≡ true) → is_begin e.reply ≡ false → (is_commit e.reply && is_abort e.reply) ≡ false → ((k : ℕ) → starts k e.reply ≡ false) → ((k : ℕ) → finishes k e.call e.reply ≡ eqb k n)
     → distinct (numbers txs) ≡ true → find n txs ≡ Some tx → Counts h txs → Counts (e ∷ h) (removed tx.number txs)
 counts_end h e n tx txs ends no-begin one no_start fin apart is c =
     let own = found n txs tx is in
     let same = numbers_removed tx.number txs apart in
-    let there : among tx.number (numbers txs) ≡ true = among_number tx txs own.0 in
+    let there : among tx.number (numbers txs) ≡ true = among_by (λ (y : Transaction). y.number) tx txs own.0 in
     let fewer = length_without tx.number (numbers txs) apart there in
     let l' : length (removed tx.number txs) ≡ length (without tx.number (numbers txs)) = sym (length-map (removed tx.number txs) (λ (t : Transaction). t.number)) ∙ ap length same in
     let l = length-map txs (λ (t : Transaction). t.number) in
     record {
-      counted =
-          let a = cond-false (is_begin e.reply) (how_many is_begin h + 1) (how_many is_begin h) no-begin in
-          let old = c.counted in
-          ⊎_elim
-          (λ (x : is_commit e.reply ≡ true).
-          let y : is_abort e.reply ≡ false = ap (λ b. b && is_abort e.reply) (sym x) ∙ one in
-          let b = cond-true (is_commit e.reply) (how_many is_commit h + 1) (how_many is_commit h) x in
-          let d = cond-false (is_abort e.reply) (how_many is_abort h + 1) (how_many is_abort h) y in omega arith)
-          (λ (x : is_commit e.reply ≡ false).
-          let y : is_abort e.reply ≡ true = sym (cond-false (is_commit e.reply) true (is_abort e.reply) x) ∙ ends in
-          let b = cond-false (is_commit e.reply) (how_many is_commit h + 1) (how_many is_commit h) x in
-          let d = cond-true (is_abort e.reply) (how_many is_abort h + 1) (how_many is_abort h) y in omega arith)
-          (cases_Bool (is_commit e.reply));
+      counted = let old = c.counted in grind (arith, nat_tests);
       exactly = λ k.
           ap (among k) same ∙ among_without k tx.number (numbers txs) ∙ ap (λ b. b && not (eqb k tx.number)) (c.exactly k) ∙ ap (λ j. is_open_in k h && not (eqb k j)) own.1
           ∙ shut (is_open_in k h) (eqb k n) ∙ sym (cond-false (starts k e.reply) _ _ (no_start k) ∙ ap (λ b. cond b false (is_open_in k h)) (fin k));
@@ -140,11 +125,7 @@ counts_end h e n tx txs ends no-begin one no_start fin apart is c =
 
 counts_begin : (h : List Event) (e : Event) (n : ℕ) (tx : Transaction) (txs : List Transaction) → is_begin e.reply ≡ true → is_commit e.reply ≡ false → is_abort e.reply ≡ false → ((k : ℕ) → starts k e.reply ≡ eqb k n) → ((k : ℕ) → finishes k e.call e.reply ≡ false) → tx.number ≡ n → Counts h txs → Counts (e ∷ h) (tx ∷ txs)
 counts_begin h e n tx txs begins no-commit no_Abort start no_end is c = record {
-  counted =
-      let a = cond-true (is_begin e.reply) (how_many is_begin h + 1) (how_many is_begin h) begins in
-      let b = cond-false (is_commit e.reply) (how_many is_commit h + 1) (how_many is_commit h) no-commit in
-      let d = cond-false (is_abort e.reply) (how_many is_abort h + 1) (how_many is_abort h) no_Abort in
-      let old = c.counted in omega arith;
+  counted = let old = c.counted in grind (arith, nat_tests);
   exactly = λ k.
       ap (λ j. eqb k j || among k (numbers txs)) is ∙ ap (λ b. eqb k n || b) (c.exactly k) ∙ either (eqb k n) (is_open_in k h)
       ∙ sym (ap (λ b. cond b true (cond (finishes k e.call e.reply) false (is_open_in k h))) (start k) ∙ ap (λ b. cond (eqb k n) true (cond b false (is_open_in k h))) (no_end k));
@@ -154,7 +135,7 @@ counts_begin h e n tx txs begins no-commit no_Abort start no_end is c = record {
     either true b = refl
     either false b = refl
 
-does_counts : (p : Rules) (h : List Event) (hall hall' : Hall) (call : Call) (changes : List Change) (reply : Reply) (given : Option Given) → distinct (numbers hall.books.txs) ≡ true → Does p hall call changes reply given hall' → Counts h hall.books.txs
+does_counts : (p : Rules) (h : List Event) (hall hall' : Hall) (call : Call) (changes : List Change) (reply : Outcome) (given : Option Given) → distinct (numbers hall.books.txs) ≡ true → Does p hall call changes reply given hall' → Counts h hall.books.txs
     → Counts (record { call = call; changes = changes; reply = reply; given = given } ∷ h) hall'.books.txs
 does_counts p h hall hall' call changes reply given apart (calls.Does.refused cl cs fault is) c = counts_same h _ hall.books.txs hall.books.txs (refl, refl, refl, λ n. refl, λ n. refl) refl c
 does_counts p h hall hall' call changes reply given apart (calls.Does.began now limit is) c = counts_begin h _ hall.books.next _ hall.books.txs refl refl refl (λ k. refl) (λ k. refl) refl c

@@ -1,5 +1,5 @@
 -- Each of the three mistakes gives a wrong reading: the halls after each call of the three lists.
-use Rattle.std.proofs.Common.{◌≡◌, ℕ, Bool, true, false, not, ◌&&◌, leb, List, [], ◌∷◌, ◌++◌, map, length, Some, None, refl, ap, ◌∙◌, inl, inr, ⊎_elim, arith, lit<}
+use Rattle.std.proofs.Common.{◌≡◌, ℕ, Bool, true, false, not, ◌&&◌, leb, List, [], ◌∷◌, ◌++◌, map, length, Some, None, refl, ap, ◌∙◌, inl, inr, ⊎_elim, arith, lit<, Ok}
 use Rattle.std.proofs.lemmas.Bool.{both_ways, and_parts, leb-true}
 use Rattle.terms.specs.declared.record.Query.{Query}
 use Rattle.terms.specs.declared.record.Query.TheVariants.{Get, Tally}
@@ -194,7 +194,7 @@ begins : {mistake : Mistake} {rules : Rules} → Elsewhere mistake → Wanders m
 begins {mistake} {rules} apart = goes opened (quiet (Begin 0 0) (Began 1 0)) (made started (starts rules)) (rightly _ _ _ _ _ apart.nothing (began 0 0 refl)) (sound empty good_empty)
 
 -- it has called the claim sheet of ticket 900, and the ticket is asked for
-asks : {mistake : Mistake} → Elsewhere mistake → Strays mistake attendant opened (Sheet 1 0 900) [] Open None sheeted → Wanders mistake attendant origin asked reading
+asks : {mistake : Mistake} → Elsewhere mistake → Strays mistake attendant opened (Sheet 1 0 900) [] (Ok Open) None sheeted → Wanders mistake attendant origin asked reading
 asks {mistake} apart called =
     let w = goes sheeted (quiet (Sheet 1 0 900) Open) (begins apart) called (sound empty good_empty) in
     goes reading (gives (Step 1 0) Open 1 (of_query (Get ticket)) None) w
@@ -242,7 +242,7 @@ since = changed arrival origin.records
 has_bag : Gives attendant since 0 900 None → ⊥
 has_bag given =
     let is : ◌≡◌ {A = Reading} None (Some (1, 5)) = value_is_one attendant since 0 900 None (Some (1, 5)) given (0, claim_gives since 900) in
-    let z : ◌≡◌ {A = ℕ} 0 1 = cc in omega arith
+    cc
 
 -- transaction 2 is told at 11 that there is none
 no_bag_stands : {mistake : Mistake} (trace : List Event) (entries : List Entry) (T : ℕ) (rest : List Row)

@@ -1,20 +1,20 @@
 -- How claims last over calls: over one that writes nothing, over pins that go, and over a write.
-use Rattle.std.proofs.Common.{◌≡◌, ℕ, ◌+◌, ◌≤◌, true, false, cond, ◌&&◌, eqb, leb, List, [], ◌∷◌, ◌++◌, Some, None, Option, sym, refl, ap, ◌∙◌, subst, inl, inr, ⊎_elim, arith}
+use Rattle.std.proofs.Common.{◌≡◌, ℕ, ◌+◌, ◌≤◌, true, false, cond, ◌&&◌, leb, List, [], ◌∷◌, ◌++◌, Some, None, Option, sym, refl, ap, ◌∙◌, subst, inl, inr, ⊎_elim, arith}
 use Rattle.std.proofs.lemmas.Bool.Decides.{nat_tests}
-use Rattle.std.proofs.lemmas.Bool.{cases_Bool, both_ways, cond-true, cond-false, le-leb, lt-leb, and_from, or_cases, or_right, or_left, or_parts, eqb-true, eq-eqb}
+use Rattle.std.proofs.lemmas.Bool.{cases_Bool, cond-true, cond-false, le-leb, lt-leb, and_from, or_cases, or_right, or_left, or_parts, eqb-true, eq-eqb}
 use Rattle.terms.specs.declared.interval.Until.{Until}
 use Rattle.terms.specs.declared.interval.Until.TheVariants.{Ended, Open}
 use Rattle.terms.specs.declared.record.Change.{Change}
 use Rattle.terms.specs.declared.record.RecordId.{RecordId}
 use Rattle.terms.specs.declared.tag.Tag.{Tag}
-use Rattle.terms.specs.Records.{is_id, change_id, change_tag, one_tag}
+use Rattle.terms.specs.Records.{change_id, change_tag, one_tag}
 use Rattle.terms.specs.Tags.{touches, keys_touch}
 use Rattle.database.specs.States.{Records, Agree}
 use Rattle.database.specs.Writes.{put, changed}
 use Rattle.database.specs.Databases.{Db, held, Sound, Written}
 use Rattle.database.proofs.Rows.{same_id}
 use Rattle.cache.specs.Lists.{Among}
-use Rattle.cache.proofs.Members.{among_left, among_right}
+use Rattle.cache.proofs.Members.{among_left, among_right, among_map}
 use Rattle.cache.specs.TagSets.{touched}
 use Rattle.recipe.specs.Recipes.{AgreeAll}
 use Rattle.model.specs.Books.{Part}
@@ -99,19 +99,14 @@ keys_sym (Some a) None = refl
 keys_sym (Some a) (Some b) = grind (arith, nat_tests)
 
 touch_sym : (one other : Tag) → touches one other ≡ touches other one
-touch_sym one other =
-    let tables : eqb one.table other.table ≡ eqb other.table one.table = grind (arith, nat_tests) in
-    ap (λ b. b && keys_touch one.key other.key) tables ∙ ap (λ b. eqb other.table one.table && b) (keys_sym one.key other.key)
+touch_sym one other = let keys = keys_sym one.key other.key in grind (arith, nat_tests)
 
 put_agree : (c : Change) (tag : Tag) (s : Records) → touches (change_tag c) tag ≡ false → Agree tag s (put c s)
 put_agree c tag s no_touch t k e =
     let at : RecordId = record { table = t; key = k } in
-    ⊎_elim
-    (λ (is : is_id (change_id c) at ≡ true).
-    let same = ap one_tag (same_id (change_id c) at is) in
-    absurd (both_ways (touches (change_tag c) tag) no_touch (ap (λ x. touches x tag) same ∙ touch_sym (one_tag at) tag ∙ e)))
-    (λ (is : is_id (change_id c) at ≡ false). sym (cond-false (is_id (change_id c) at) _ _ is))
-    (cases_Bool (is_id (change_id c) at))
+    let same = same_id (change_id c) at in
+    let other = touch_sym (one_tag at) tag in
+    grind (arith, nat_tests)
 
 changes_agree : (cs : List Change) (tag : Tag) (s : Records) → ((c : Change) → Among c cs → touches (change_tag c) tag ≡ false) → Agree tag s (changed cs s)
 changes_agree [] tag s none t k e = refl
@@ -119,7 +114,7 @@ changes_agree (c ∷ cs) tag s none t k e = put_agree c tag s (none c (inl refl)
 
 touched_each : (tag : Tag) (tags : List Tag) (x : Tag) → touched tag tags ≡ false → Among x tags → touches tag x ≡ false
 touched_each tag [] x e a = absurd a
-touched_each tag (y ∷ tags) x e a = let parts = or_parts _ _ e in ⊎_elim (λ is. ap (touches tag) is ∙ parts.0) (λ b. touched_each tag tags x parts.1 b) a
+touched_each tag (y ∷ tags) x e a = let ih = touched_each tag tags x in grind (arith, nat_tests)
 
 agree_changes : (cs : List Change) (tags : List Tag) (s : Records) → ((c : Change) → Among c cs → touched (change_tag c) tags ≡ false) → AgreeAll tags s (changed cs s)
 agree_changes cs [] s none = tt
@@ -130,10 +125,6 @@ agree_trans : (tags : List Tag) (s y z : Records) → AgreeAll tags s y → Agre
 agree_trans [] s y z a b = tt
 agree_trans (tag ∷ tags) s y z a b = (λ t k e. a.0 t k e ∙ b.0 t k e, agree_trans tags s y z a.1 b.1)
 
-row_of : (n : ℕ) (cs : List Change) (c : Change) → Among c cs → Among (record { moment = n; tag = change_tag c }) (rows_of_write n cs)
-row_of n [] c a = absurd a
-row_of n (d ∷ cs) c a = ⊎_elim (λ is. inl (ap (λ (x : Change). record { moment = n; tag = change_tag x }) is)) (λ b. inr (row_of n cs c b)) a
-
 untouched_before : (o : Origin) (h : List Event) (e : Event) (a m : ℕ) (tags : List Tag) → is_write e.reply ≡ true → Untouched o (e ∷ h) a m tags → Untouched o h a m tags
 untouched_before o h e a m tags w u row in-it = u row (subst (Among row) (sym (rows_new o h e w)) (among_left row (rows_of o h) (rows_of_write (latest_of o h + 1) e.changes) in-it))
 
@@ -143,7 +134,7 @@ claim_at_new o h e tags (Ended end) l P w same wi re c = λ less. absurd (omega 
 claim_at_new o h e tags (Open t) l P w same wi re c = λ un z agree.
     let none : (d : Change) → Among d e.changes → touched (change_tag d) tags ≡ false =
     λ d a. ⊎_elim
-    (λ le. un (record { moment = latest_of o h + 1; tag = change_tag d }) (subst (Among (record { moment = latest_of o h + 1; tag = change_tag d })) (sym (rows_new o h e w)) (among_right _ (rows_of o h) (rows_of_write (latest_of o h + 1) e.changes) (row_of (latest_of o h + 1) e.changes d a))) (omega arith) (omega arith))
+    (λ le. un (record { moment = latest_of o h + 1; tag = change_tag d }) (subst (Among (record { moment = latest_of o h + 1; tag = change_tag d })) (sym (rows_new o h e w)) (among_right _ (rows_of o h) (rows_of_write (latest_of o h + 1) e.changes) (among_map (λ (x : Change). record { moment = latest_of o h + 1; tag = change_tag x }) d e.changes a))) (omega arith) (omega arith))
     (λ empty. ap (touched (change_tag d)) empty) re in
     let start = subst (λ k. AgreeAll tags (records_at o (e ∷ h) (k + 1)) z) same agree in
     let moved = subst (λ s. AgreeAll tags s z) (records_new o h e w) start in

@@ -1,5 +1,7 @@
 -- The claims of a queried answer, of a hit, of what a done frame enters, and of what a delivery closes.
-use Rattle.std.proofs.Common.{◌≡◌, ℕ, ◌+◌, ◌<◌, ◌≤◌, max, true, false, cond, ◌&&◌, ltb, leb, List, [], ◌∷◌, length, Some, None, sym, refl, ap, ◌∙◌, subst, inl, ⊎_elim, arith}
+use Rattle.std.proofs.Common.{◌≡◌, ℕ, ◌+◌, ◌<◌, ◌≤◌, max, true, false, cond, ◌&&◌, ltb, leb, List, [], ◌∷◌, length, Some, sym, refl, ap, ◌∙◌, subst, inl, ⊎_elim, arith}
+use Rattle.std.proofs.lemmas.Option.{none-some, same_Some}
+use Rattle.std.proofs.lemmas.Bool.Decides.{nat_tests}
 use Rattle.std.proofs.lemmas.Bool.{cases_Bool, both_ways, cond-true, cond-false, leb-true, leb-false, le-leb, ltb-true, lt-ltb, and_from, and_parts, or_cases, eqb-true, cases_lt}
 use Rattle.terms.specs.declared.interval.Until.{Until}
 use Rattle.terms.specs.declared.interval.Until.TheVariants.{Ended, Open}
@@ -66,7 +68,7 @@ same_through T S (Ended e) f = refl
 same_through T S (Open t) f = ap (λ (n : ℕ). Open n) (f t refl)
 
 covered_through : (T first m : ℕ) (u : Until) (t : ℕ) → u ≡ Open t → first ≤ m → known_at T u m ≡ true → max T first ≡ T
-covered_through T first m (Ended e) t is l k = let z : ◌≡◌ {A = ℕ} 0 1 = cc in omega arith
+covered_through T first m (Ended e) t is l k = cc
 covered_through T first m (Open t) s is l k = let x = leb-true m T k in omega arith
 
 pub hit_claim : (o : Origin) (h : List Event) (db : Db) (T m : ℕ) (e : Entry) (P : Records → Type 0) → covers T e m ≡ true → Claim o h db (entry_part T e) P → Claim o h db (hit_part T e) P
@@ -113,12 +115,6 @@ settle_part o h db T first (Open t) tags P past forward c =
     }))
     (cases_Bool (leb T t))
 
-some_one : (one other : Entry) → Some one ≡ Some other → one ≡ other
-some_one one other e = cc
-
-none_some : (one : Entry) → None ≡ Some one → ⊥
-none_some one e = let z : ◌≡◌ {A = ℕ} 0 1 = cc in omega arith
-
 pub enter_claim : (o : Origin) (h : List Event) (db : Db) (T : ℕ) (part : Part) (key : Key) (reading : Reading) (e : Entry) (P : Records → Type 0) → T ≤ db.latest → Forward part
     → accepted key reading (settled T part).interval (settled T part).tags ≡ Some e → Claim o h db part P → Claim o h db (entry_part T e) P × (e.key ≡ key) × (e.reading ≡ reading)
 enter_claim o h db T part key reading e P past forward is claim =
@@ -127,12 +123,12 @@ enter_claim o h db T part key reading e P past forward is claim =
     let new : Entry = record { key = key; reading = reading; interval = (settled T part).interval; tags = packed (settled T part).tags } in
     let few = leb-true (length (settled T part).tags) 8 (and_parts (leb (length (settled T part).tags) 8) (new_to [] (settled T part).tags) (and_parts (has_moment (settled T part).interval) (few_tags (settled T part).tags) (and_parts (ltb key.sheet 255) (has_moment (settled T part).interval && few_tags (settled T part).tags) ok).1).1).0 in
     let own = tags_of_packed (settled T part).tags few in
-    let same : new ≡ e = some_one new e (sym (cond-true (accepts key (settled T part).interval (settled T part).tags) _ _ ok) ∙ is) in
+    let same : new ≡ e = same_Some new e (sym (cond-true (accepts key (settled T part).interval (settled T part).tags) _ _ ok) ∙ is) in
     let settled-claim = settle_part o h db T part.interval.first part.interval.until part.tags P past forward claim in
     let make : List Tag → Part = λ tags. record { interval = record { first = part.interval.first; until = through_t (max T part.interval.first) (settled T part).interval.until }; tags = tags } in
     (subst (λ x. Claim o h db (entry_part T x) P) same (subst (λ x. Claim o h db x P) (ap make (sym own)) settled-claim), ap (λ x. x.key) (sym same), ap (λ x. x.reading) (sym same)))
     (λ (ok : accepts key (settled T part).interval (settled T part).tags ≡ false).
-    absurd (none_some e (sym (cond-false (accepts key (settled T part).interval (settled T part).tags) _ _ ok) ∙ is)))
+    absurd (none-some e (sym (cond-false (accepts key (settled T part).interval (settled T part).tags) _ _ ok) ∙ is)))
     (cases_Bool (accepts key (settled T part).interval (settled T part).tags))
 
 -- a delivery: an entry that a row touches ends at the new message's moment, the others go on
@@ -186,10 +182,7 @@ abbrev Spared : Origin → List Event → ℕ → Entry → Type 0
 Spared o h n e = (row : Row) → Among row (rows_of o h) → row.moment ≡ n → closes row.tag n e ≡ false
 
 not_touched : (n : ℕ) (tag : Tag) (e : Entry) → n ≤ highest → is_open e.interval.until ≡ true → e.interval.first < n → closes tag n e ≡ false → touched tag (tags_of e.tags) ≡ false
-not_touched n tag e top op first c =
-    let a : is_end n ≡ true = le-leb n (highest + 1) (omega arith) in
-    let b : ltb e.interval.first n ≡ true = lt-ltb e.interval.first n first in
-    ⊎_elim (λ (t : touched tag (tags_of e.tags) ≡ true). absurd (both_ways (closes tag n e) c (and_from _ _ a (and_from _ _ op (and_from _ _ b t))))) (λ (t : touched tag (tags_of e.tags) ≡ false). t) (cases_Bool (touched tag (tags_of e.tags)))
+not_touched n tag e top op first c = grind (arith, nat_tests)
 
 goes_at : (o : Origin) (h : List Event) (T m : ℕ) (e : Entry) (u : Until) (P : Records → Type 0) → e.interval.until ≡ u → T + 1 ≤ highest → Spared o h (T + 1) e
     → ClaimAt o h (tags_of e.tags) (through_t (max T e.interval.first) u) m P → ClaimAt o h (tags_of e.tags) (through_t (max (T + 1) e.interval.first) u) m P

@@ -1,6 +1,7 @@
 -- What is answered at the end of a sheet answers the transaction's last accepted call: the bottom frame is that sheet's.
-use Rattle.std.proofs.Common.{◌≡◌, ℕ, Bool, true, false, cond, eqb, List, [], ◌∷◌, map, Some, None, Option, sym, refl, ap, ◌∙◌, subst, inl, inr, ⊎_elim, arith}
-use Rattle.std.proofs.lemmas.Bool.{cases_Bool, both_ways, eqb-true, eq-eqb}
+use Rattle.std.proofs.Common.{◌≡◌, ℕ, true, false, cond, eqb, List, [], ◌∷◌, map, Some, None, Option, sym, refl, ap, ◌∙◌, subst, inl, inr, ⊎_elim, Ok}
+use Rattle.std.proofs.lemmas.Option.{none-some, same_Some}
+use Rattle.std.proofs.lemmas.Bool.{cases_Bool, eqb-true, eq-eqb}
 use Rattle.terms.specs.declared.record.Change.{Change}
 use Rattle.terms.specs.Records.{Reading}
 use Rattle.database.specs.Lists.{distinct}
@@ -8,11 +9,10 @@ use Rattle.database.specs.Databases.{Db}
 use Rattle.cache.specs.Lists.{Among}
 use Rattle.recipe.specs.Recipes.{Rules}
 use Rattle.model.specs.declared.call.Call.{Call}
-use Rattle.model.specs.declared.call.Reply.{Reply}
-use Rattle.model.specs.declared.call.Reply.TheVariants.{Began, Read, Open, Committed, Aborted, Written as Wrote, Delivered, Swept, Refused}
+use Rattle.model.specs.declared.call.Reply.TheVariants.{Read}
 use Rattle.model.specs.Books.{Pin, Part, Frame, Transaction, Books, Hall, fresh_frame, find, replaced, removed}
 use Rattle.model.specs.Rules.{Picks, taken, pinned, gave_up, kept, hit_part, answer_part, cut, narrowed}
-use Rattle.model.specs.Calls.{Question, of_query, of_sheet, Given, Does, went, handed, with_frames, begun}
+use Rattle.model.specs.Calls.{Outcome, Question, of_query, of_sheet, Given, Does, went, handed, with_frames, begun}
 use Rattle.model.specs.Calls as calls
 use Rattle.model.specs.Traces.{Origin, Event, Lives}
 use Rattle.model.specs.Traces as traces
@@ -32,9 +32,6 @@ root (frame ∷ below ∷ frames) = root (below ∷ frames)
 pub record Rooted (h : List Event) (txs : List Transaction) : Type 0 where
   pub roots : (tx : Transaction) → Among tx txs → (q : Question) → root tx.frames ≡ Some q → last_asked tx.number h ≡ Some q
 
-no_question : (q : Question) → None ≡ Some q → ⊥
-no_question q e = let z : ◌≡◌ {A = ℕ} 0 1 = cc in omega arith
-
 -- cutting the frames, and what a recipe is given, leave the sheet
 root_cut : (part : Part) (frames : List Frame) → root (map (cut part) frames) ≡ root frames
 root_cut part [] = refl
@@ -50,7 +47,7 @@ root_handed reading frame [] = refl
 root_handed reading frame (below ∷ frames) = refl
 
 root_none : (frames : List Frame) (q : Question) → frames ≡ [] → root frames ≡ Some q → ⊥
-root_none frames q none e = no_question q (sym (ap root none) ∙ e)
+root_none frames q none e = none-some q (sym (ap root none) ∙ e)
 
 -- choosing leaves number and frames
 picks_same : (db : Db) (pins : List Pin) (tx : Transaction) (now m : ℕ) (db' : Db) (pins' : List Pin) (tx' : Transaction) → Picks db pins tx now m db' pins' tx' → (tx'.number ≡ tx.number) × (tx'.frames ≡ tx.frames)
@@ -107,7 +104,7 @@ asks_own n number q x is = ap (λ b. last_of (cond b (Some q) None) x) (eq-eqb n
 asks_other : (n number : ℕ) (q : Question) (x : Option Question) → eqb n number ≡ false → last_of (cond (eqb n number) (Some q) None) x ≡ x
 asks_other n number q x other = ap (λ b. last_of (cond b (Some q) None) x) other
 
-does_rooted : (p : Rules) (h : List Event) (hall hall' : Hall) (call : Call) (changes : List Change) (reply : Reply) (given : Option Given) → distinct (numbers hall.books.txs) ≡ true → Does p hall call changes reply given hall' → Rooted h hall.books.txs
+does_rooted : (p : Rules) (h : List Event) (hall hall' : Hall) (call : Call) (changes : List Change) (reply : Outcome) (given : Option Given) → distinct (numbers hall.books.txs) ≡ true → Does p hall call changes reply given hall' → Rooted h hall.books.txs
     → Rooted (record { call = call; changes = changes; reply = reply; given = given } ∷ h) hall'.books.txs
 does_rooted p h hall hall' call changes reply given apart (calls.Does.refused cl cs fault is) rooted = rooted_skip h _ hall.books.txs (λ n. refl) rooted
 does_rooted p h hall hall' call changes reply given apart (calls.Does.began now limit is) rooted = rooted_began h _ (begun now limit hall.books) hall.books.txs (λ n. refl) refl rooted
@@ -121,25 +118,25 @@ does_rooted p h hall hall' call changes reply given apart (calls.Does.queried nu
     (λ q r. absurd (root_none tx'.frames q (same.1 ∙ no_frames tx.frames shut) (sym (root_cut (answer_part answer) tx'.frames) ∙ r))) rooted
 does_rooted p h hall hall' call changes reply given apart (calls.Does.query_no_pin number now query tx is shut known none) rooted = rooted_skip h _ hall.books.txs (λ n. refl) rooted
 does_rooted p h hall hall' call changes reply given apart (calls.Does.query_not_held number now m query tx is shut known picks out) rooted = rooted_skip h _ hall.books.txs (λ n. refl) rooted
-does_rooted p h hall hall' call changes reply given apart (calls.Does.never_done number now tx frame frames is fr last not_done) rooted = rooted_step h _ number tx (with_frames [] tx) hall.books.txs (λ n. refl) is refl (λ q r. absurd (no_question q r)) rooted
-does_rooted p h hall hall' call changes reply given apart (calls.Does.step_table number now query tx frame frames is fr last asked out) rooted = rooted_step h _ number tx (with_frames [] tx) hall.books.txs (λ n. refl) is refl (λ q r. absurd (no_question q r)) rooted
-does_rooted p h hall hall' call changes reply given apart (calls.Does.step_no_pin number now query tx frame frames is fr last asked known none) rooted = rooted_step h _ number tx (with_frames [] tx) hall.books.txs (λ n. refl) is refl (λ q r. absurd (no_question q r)) rooted
-does_rooted p h hall hall' call changes reply given apart (calls.Does.step_not_held number now m query tx frame frames is fr last asked known picks out) rooted = rooted_step h _ number tx (with_frames [] tx) hall.books.txs (λ n. refl) is refl (λ q r. absurd (no_question q r)) rooted
+does_rooted p h hall hall' call changes reply given apart (calls.Does.never_done number now tx frame frames is fr last not_done) rooted = rooted_step h _ number tx (with_frames [] tx) hall.books.txs (λ n. refl) is refl (λ q r. absurd (none-some q r)) rooted
+does_rooted p h hall hall' call changes reply given apart (calls.Does.step_table number now query tx frame frames is fr last asked out) rooted = rooted_step h _ number tx (with_frames [] tx) hall.books.txs (λ n. refl) is refl (λ q r. absurd (none-some q r)) rooted
+does_rooted p h hall hall' call changes reply given apart (calls.Does.step_no_pin number now query tx frame frames is fr last asked known none) rooted = rooted_step h _ number tx (with_frames [] tx) hall.books.txs (λ n. refl) is refl (λ q r. absurd (none-some q r)) rooted
+does_rooted p h hall hall' call changes reply given apart (calls.Does.step_not_held number now m query tx frame frames is fr last asked known picks out) rooted = rooted_step h _ number tx (with_frames [] tx) hall.books.txs (λ n. refl) is refl (λ q r. absurd (none-some q r)) rooted
 does_rooted p h hall hall' call changes reply given apart (calls.Does.step_query number now m query tx tx' frame frames db pins answer is fr last asked known picks asks) rooted =
     let same = picks_same hall.db hall.books.pins tx now m db pins tx' picks in
     rooted_step h _ number tx (narrowed (answer_part answer) (with_frames (went p frame answer.reading ∷ frames) tx')) hall.books.txs (λ n. refl) is same.0
     (λ q r. ap root fr ∙ sym (root_went p frame answer.reading frames) ∙ sym (root_cut (answer_part answer) (went p frame answer.reading ∷ frames)) ∙ r) rooted
-does_rooted p h hall hall' call changes reply given apart (calls.Does.step_unknown number now sheet argument tx frame frames is fr last asked out) rooted = rooted_step h _ number tx (with_frames [] tx) hall.books.txs (λ n. refl) is refl (λ q r. absurd (no_question q r)) rooted
+does_rooted p h hall hall' call changes reply given apart (calls.Does.step_unknown number now sheet argument tx frame frames is fr last asked out) rooted = rooted_step h _ number tx (with_frames [] tx) hall.books.txs (λ n. refl) is refl (λ q r. absurd (none-some q r)) rooted
 does_rooted p h hall hall' call changes reply given apart (calls.Does.step_hit number now sheet argument tx frame frames entry entries is fr last asked there looks same) rooted =
     rooted_step h _ number tx (narrowed (hit_part hall.books.delivered entry) (with_frames (went p frame entry.reading ∷ frames) tx)) hall.books.txs (λ n. refl) is refl
     (λ q r. ap root fr ∙ sym (root_went p frame entry.reading frames) ∙ sym (root_cut (hit_part hall.books.delivered entry) (went p frame entry.reading ∷ frames)) ∙ r) rooted
-does_rooted p h hall hall' call changes reply given apart (calls.Does.step_deep number now sheet argument tx frame frames entries is fr last asked there looks same deep) rooted = rooted_step h _ number tx (with_frames [] tx) hall.books.txs (λ n. refl) is refl (λ q r. absurd (no_question q r)) rooted
+does_rooted p h hall hall' call changes reply given apart (calls.Does.step_deep number now sheet argument tx frame frames entries is fr last asked there looks same deep) rooted = rooted_step h _ number tx (with_frames [] tx) hall.books.txs (λ n. refl) is refl (λ q r. absurd (none-some q r)) rooted
 does_rooted p h hall hall' call changes reply given apart (calls.Does.step_miss number now sheet argument tx frame frames entries is fr last asked there looks same room) rooted =
     rooted_step h _ number tx (with_frames (fresh_frame sheet argument ∷ went p frame frame.point.last ∷ frames) tx) hall.books.txs (λ n. refl) is refl
     (λ q r. ap root fr ∙ sym (root_went p frame frame.point.last frames) ∙ r) rooted
 does_rooted p h hall hall' call changes reply given apart (calls.Does.step_done number now reading tx frame below frames entries is fr asked enters) rooted =
     rooted_step h _ number tx (with_frames (handed reading below ∷ frames) tx) hall.books.txs (λ n. refl) is refl (λ q r. ap root fr ∙ sym (root_handed reading below frames) ∙ r) rooted
-does_rooted p h hall hall' call changes reply given apart (calls.Does.step_last number now reading tx frame entries is fr asked enters) rooted = rooted_step h _ number tx (with_frames [] tx) hall.books.txs (λ n. refl) is refl (λ q r. absurd (no_question q r)) rooted
+does_rooted p h hall hall' call changes reply given apart (calls.Does.step_last number now reading tx frame entries is fr asked enters) rooted = rooted_step h _ number tx (with_frames [] tx) hall.books.txs (λ n. refl) is refl (λ q r. absurd (none-some q r)) rooted
 does_rooted p h hall hall' call changes reply given apart (calls.Does.committed number tx is) rooted = rooted_ended h _ tx.number hall.books.txs (λ n. refl) rooted
 does_rooted p h hall hall' call changes reply given apart (calls.Does.aborted number tx is) rooted = rooted_ended h _ tx.number hall.books.txs (λ n. refl) rooted
 does_rooted p h hall hall' call changes reply given apart (calls.Does.wrote cs moment db is written) rooted = rooted_skip h _ hall.books.txs (λ n. refl) rooted
@@ -152,74 +149,42 @@ rooted p o h hall (traces.Lives.made db first size hall₀ makes sound at record
 rooted p o h hall (traces.Lives.then trace before after event lives does sound) =
     does_rooted p trace before after event.call event.changes event.reply event.given (carried p o trace before lives).0.apart does (rooted p o trace before lives)
 
--- what is answered
-abbrev read_of : Reply → Reading → Reading
-read_of (Began number moments) other = other
-read_of (Read reading) other = reading
-read_of Open other = other
-read_of (Committed moment) other = other
-read_of Aborted other = other
-read_of (Wrote moment) other = other
-read_of (Delivered moment) other = other
-read_of (Swept pins) other = other
-read_of (Refused fault) other = other
-
-abbrev is_read : Reply → Bool
-is_read (Began number moments) = false
-is_read (Read reading) = true
-is_read Open = false
-is_read (Committed moment) = false
-is_read Aborted = false
-is_read (Wrote moment) = false
-is_read (Delivered moment) = false
-is_read (Swept pins) = false
-is_read (Refused fault) = false
-
-other_reply : {X : Type 0} (reply : Reply) (reading : Reading) → is_read reply ≡ false → reply ≡ Read reading → X
-other_reply reply reading not-read e = absurd (both_ways (is_read reply) not-read (ap is_read e))
-
 abbrev given_as : ℕ → Question → Reading → Given
 given_as n question reading = record { number = n; question = question; reading = reading }
 
-one_question : (q w : Question) → Some q ≡ Some w → q ≡ w
-one_question q w e = cc
-
-same_given : (number n : ℕ) (q w : Question) (r s : Reading) → number ≡ n → q ≡ w → r ≡ s → Some (given_as number q r) ≡ Some (given_as n w s)
-same_given number n q w r s a b c = ap (λ x. Some (given_as x q r)) a ∙ ap (λ x. Some (given_as n x r)) b ∙ ap (λ x. Some (given_as n w x)) c
-
-does_answered : (p : Rules) (h : List Event) (hall hall' : Hall) (call : Call) (changes : List Change) (reply : Reply) (given : Option Given) (n : ℕ) (question : Question) (answer : Reading) → Does p hall call changes reply given hall' → Rooted h hall.books.txs
-    → is_by n call ≡ true → reply ≡ Read answer → last_asked n (record { call = call; changes = changes; reply = reply; given = given } ∷ h) ≡ Some question → given ≡ Some (given_as n question answer)
-does_answered p h hall hall' call changes reply given n question answer (calls.Does.refused cl cs fault is) rooted by told last = other_reply _ answer refl told
-does_answered p h hall hall' call changes reply given n question answer (calls.Does.began now limit is) rooted by told last = other_reply _ answer refl told
+does_answered : (p : Rules) (h : List Event) (hall hall' : Hall) (call : Call) (changes : List Change) (reply : Outcome) (given : Option Given) (n : ℕ) (question : Question) (answer : Reading) → Does p hall call changes reply given hall' → Rooted h hall.books.txs
+    → is_by n call ≡ true → reply ≡ Ok (Read answer) → last_asked n (record { call = call; changes = changes; reply = reply; given = given } ∷ h) ≡ Some question → given ≡ Some (given_as n question answer)
+does_answered p h hall hall' call changes reply given n question answer (calls.Does.refused cl cs fault is) rooted by told last = cc
+does_answered p h hall hall' call changes reply given n question answer (calls.Does.began now limit is) rooted by told last = cc
 does_answered p h hall hall' call changes reply given n question answer (calls.Does.hit number sheet argument tx entry entries is shut there looks same) rooted by told last =
     let its = eqb-true n number by in
-    same_given number n _ question _ answer (sym its) (one_question _ question (sym (asks_own n number (of_sheet sheet argument) (last_asked n h) its) ∙ last)) (ap (λ x. read_of x answer) told)
-does_answered p h hall hall' call changes reply given n question answer (calls.Does.miss number sheet argument tx entries is shut there looks same) rooted by told last = other_reply _ answer refl told
+    let asked = same_Some _ question (sym (asks_own n number (of_sheet sheet argument) (last_asked n h) its) ∙ last) in cc
+does_answered p h hall hall' call changes reply given n question answer (calls.Does.miss number sheet argument tx entries is shut there looks same) rooted by told last = cc
 does_answered p h hall hall' call changes reply given n question answer (calls.Does.queried number now m query tx tx' db pins answered is shut known picks asks) rooted by told last =
     let its = eqb-true n number by in
-    same_given number n _ question _ answer (sym its) (one_question _ question (sym (asks_own n number (of_query query) (last_asked n h) its) ∙ last)) (ap (λ x. read_of x answer) told)
-does_answered p h hall hall' call changes reply given n question answer (calls.Does.query_no_pin number now query tx is shut known none) rooted by told last = other_reply _ answer refl told
-does_answered p h hall hall' call changes reply given n question answer (calls.Does.query_not_held number now m query tx is shut known picks out) rooted by told last = other_reply _ answer refl told
-does_answered p h hall hall' call changes reply given n question answer (calls.Does.never_done number now tx frame frames is fr latest not_done) rooted by told last = other_reply _ answer refl told
-does_answered p h hall hall' call changes reply given n question answer (calls.Does.step_table number now query tx frame frames is fr latest asked out) rooted by told last = other_reply _ answer refl told
-does_answered p h hall hall' call changes reply given n question answer (calls.Does.step_no_pin number now query tx frame frames is fr latest asked known none) rooted by told last = other_reply _ answer refl told
-does_answered p h hall hall' call changes reply given n question answer (calls.Does.step_not_held number now m query tx frame frames is fr latest asked known picks out) rooted by told last = other_reply _ answer refl told
-does_answered p h hall hall' call changes reply given n question answer (calls.Does.step_query number now m query tx tx' frame frames db pins answered is fr latest asked known picks asks) rooted by told last = other_reply _ answer refl told
-does_answered p h hall hall' call changes reply given n question answer (calls.Does.step_unknown number now sheet argument tx frame frames is fr latest asked out) rooted by told last = other_reply _ answer refl told
-does_answered p h hall hall' call changes reply given n question answer (calls.Does.step_hit number now sheet argument tx frame frames entry entries is fr latest asked there looks same) rooted by told last = other_reply _ answer refl told
-does_answered p h hall hall' call changes reply given n question answer (calls.Does.step_deep number now sheet argument tx frame frames entries is fr latest asked there looks same deep) rooted by told last = other_reply _ answer refl told
-does_answered p h hall hall' call changes reply given n question answer (calls.Does.step_miss number now sheet argument tx frame frames entries is fr latest asked there looks same room) rooted by told last = other_reply _ answer refl told
-does_answered p h hall hall' call changes reply given n question answer (calls.Does.step_done number now reading tx frame below frames entries is fr asked enters) rooted by told last = other_reply _ answer refl told
+    let asked = same_Some _ question (sym (asks_own n number (of_query query) (last_asked n h) its) ∙ last) in cc
+does_answered p h hall hall' call changes reply given n question answer (calls.Does.query_no_pin number now query tx is shut known none) rooted by told last = cc
+does_answered p h hall hall' call changes reply given n question answer (calls.Does.query_not_held number now m query tx is shut known picks out) rooted by told last = cc
+does_answered p h hall hall' call changes reply given n question answer (calls.Does.never_done number now tx frame frames is fr latest not_done) rooted by told last = cc
+does_answered p h hall hall' call changes reply given n question answer (calls.Does.step_table number now query tx frame frames is fr latest asked out) rooted by told last = cc
+does_answered p h hall hall' call changes reply given n question answer (calls.Does.step_no_pin number now query tx frame frames is fr latest asked known none) rooted by told last = cc
+does_answered p h hall hall' call changes reply given n question answer (calls.Does.step_not_held number now m query tx frame frames is fr latest asked known picks out) rooted by told last = cc
+does_answered p h hall hall' call changes reply given n question answer (calls.Does.step_query number now m query tx tx' frame frames db pins answered is fr latest asked known picks asks) rooted by told last = cc
+does_answered p h hall hall' call changes reply given n question answer (calls.Does.step_unknown number now sheet argument tx frame frames is fr latest asked out) rooted by told last = cc
+does_answered p h hall hall' call changes reply given n question answer (calls.Does.step_hit number now sheet argument tx frame frames entry entries is fr latest asked there looks same) rooted by told last = cc
+does_answered p h hall hall' call changes reply given n question answer (calls.Does.step_deep number now sheet argument tx frame frames entries is fr latest asked there looks same deep) rooted by told last = cc
+does_answered p h hall hall' call changes reply given n question answer (calls.Does.step_miss number now sheet argument tx frame frames entries is fr latest asked there looks same room) rooted by told last = cc
+does_answered p h hall hall' call changes reply given n question answer (calls.Does.step_done number now reading tx frame below frames entries is fr asked enters) rooted by told last = cc
 does_answered p h hall hall' call changes reply given n question answer (calls.Does.step_last number now reading tx frame entries is fr asked enters) rooted by told last =
     let its = eqb-true n number by in
     let own = found number hall.books.txs tx is in
     let asked-for : last_asked n h ≡ Some (of_sheet frame.point.sheet frame.point.argument) = ap (λ k. last_asked k h) (its ∙ sym own.1) ∙ rooted.roots tx own.0 _ (ap root fr) in
-    same_given number n _ question _ answer (sym its) (one_question _ question (sym asked-for ∙ last)) (ap (λ x. read_of x answer) told)
-does_answered p h hall hall' call changes reply given n question answer (calls.Does.committed number tx is) rooted by told last = other_reply _ answer refl told
-does_answered p h hall hall' call changes reply given n question answer (calls.Does.aborted number tx is) rooted by told last = other_reply _ answer refl told
-does_answered p h hall hall' call changes reply given n question answer (calls.Does.wrote cs moment db is written) rooted by told last = other_reply _ answer refl told
-does_answered p h hall hall' call changes reply given n question answer (calls.Does.delivered row rows entries first closes) rooted by told last = other_reply _ answer refl told
-does_answered p h hall hall' call changes reply given n question answer (calls.Does.swept now age db entries unpins drops) rooted by told last = other_reply _ answer refl told
+    let asked = same_Some _ question (sym asked-for ∙ last) in cc
+does_answered p h hall hall' call changes reply given n question answer (calls.Does.committed number tx is) rooted by told last = cc
+does_answered p h hall hall' call changes reply given n question answer (calls.Does.aborted number tx is) rooted by told last = cc
+does_answered p h hall hall' call changes reply given n question answer (calls.Does.wrote cs moment db is written) rooted by told last = cc
+does_answered p h hall hall' call changes reply given n question answer (calls.Does.delivered row rows entries first closes) rooted by told last = cc
+does_answered p h hall hall' call changes reply given n question answer (calls.Does.swept now age db entries unpins drops) rooted by told last = cc
 
 pub answered : (p : Rules) (o : Origin) (h : List Event) (hall : Hall) → Lives p o h hall → (n : ℕ) (question : Question) (reading : Reading) → AnsweredIn n question reading h → GivenIn (given_as n question reading) h
 answered p o h hall (traces.Lives.made db first size hall₀ makes sound at records) n question reading none = none

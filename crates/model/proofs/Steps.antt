@@ -1,6 +1,8 @@
 -- Narrowing and choosing keep what is carried.
-use Rattle.std.proofs.Common.{◌≡◌, ℕ, ◌<◌, true, false, eqb, List, [], ◌∷◌, map, Some, filter, sym, refl, ap, ◌∙◌, subst, ⊎_elim}
-use Rattle.std.proofs.lemmas.Bool.{cases_Bool, both_ways, cond-true, cond-false, and_from, and_parts, or_right, eq-eqb}
+use Rattle.std.proofs.Common.{◌≡◌, ℕ, ◌<◌, true, false, List, [], ◌∷◌, map, Some, filter, sym, refl, ap, ◌∙◌, subst, arith}
+use Rattle.std.proofs.lemmas.Option.{none-some, same_Some}
+use Rattle.std.proofs.lemmas.Bool.Decides.{nat_tests}
+use Rattle.std.proofs.lemmas.Bool.{both_ways, and_from, and_parts, or_right}
 use Rattle.terms.specs.Intervals.{contains}
 use Rattle.database.specs.Lists.{among, distinct}
 use Rattle.database.specs.States.{Records}
@@ -14,7 +16,7 @@ use Rattle.model.specs.Traces.{Origin, Event, is_write, records_at}
 use Rattle.model.specs.Law.{Right}
 use Rattle.model.proofs.Claims.{Claim, claim_here, meet_contains}
 use Rattle.model.proofs.Towers.{Stack, nth, nth_cut}
-use Rattle.model.proofs.Cores.{none_tx, TxGood, Core, core_append, core_tx, found, numbers_replaced, only_one}
+use Rattle.model.proofs.Cores.{TxGood, Core, core_append, core_tx, found, numbers_replaced, only_one}
 
 -- a moment of a pin set is held
 pub set_held : (p : Rules) (o : Origin) (h : List Event) (hall : Hall) (tx : Transaction) (m : ℕ) → Core p o h hall → TxGood p o h hall.db hall.books.pins hall.books.next tx → among m tx.set ≡ true → held hall.db m ≡ true
@@ -45,30 +47,13 @@ narrow_good p o h db pins next tx part gs m₀ good in-set in-part stack inside 
       right = λ given g is m a. good.right given g is m (both m a).0;
     }
 
-some_given : (one other : Given) → Some one ≡ Some other → one ≡ other
-some_given one other e = cc
-
 pub find_replaced : (tx' : Transaction) (txs : List Transaction) (tx : Transaction) → find tx'.number txs ≡ Some tx → find tx'.number (replaced tx' txs) ≡ Some tx'
-find_replaced tx' [] tx e = absurd (none_tx tx e)
-find_replaced tx' (x ∷ txs) tx e =
-    ⊎_elim
-    (λ (is : eqb tx'.number x.number ≡ true). ap (find tx'.number) (cond-true (eqb tx'.number x.number) (tx' ∷ txs) (x ∷ replaced tx' txs) is) ∙ cond-true (eqb tx'.number tx'.number) _ _ (eq-eqb tx'.number tx'.number refl))
-    (λ (is : eqb tx'.number x.number ≡ false). ap (find tx'.number) (cond-false (eqb tx'.number x.number) (tx' ∷ txs) (x ∷ replaced tx' txs) is) ∙ cond-false (eqb tx'.number x.number) _ _ is
-    ∙ find_replaced tx' txs tx (sym (cond-false (eqb tx'.number x.number) _ _ is) ∙ e))
-    (cases_Bool (eqb tx'.number x.number))
+find_replaced tx' [] tx e = absurd (none-some tx e)
+find_replaced tx' (x ∷ txs) tx e = let ih = find_replaced tx' txs tx in grind (arith, nat_tests)
 
 pub replaced_again : (a b : Transaction) (txs : List Transaction) → a.number ≡ b.number → replaced a (replaced b txs) ≡ replaced a txs
 replaced_again a b [] same = refl
-replaced_again a b (x ∷ txs) same =
-    ⊎_elim
-    (λ (is : eqb b.number x.number ≡ true).
-    let ax : eqb a.number x.number ≡ true = ap (λ n. eqb n x.number) same ∙ is in
-    let ab : eqb a.number b.number ≡ true = eq-eqb a.number b.number same in
-    ap (replaced a) (cond-true (eqb b.number x.number) (b ∷ txs) (x ∷ replaced b txs) is) ∙ cond-true (eqb a.number b.number) _ _ ab ∙ sym (cond-true (eqb a.number x.number) _ _ ax))
-    (λ (is : eqb b.number x.number ≡ false).
-    let ax : eqb a.number x.number ≡ false = ap (λ n. eqb n x.number) same ∙ is in
-    ap (replaced a) (cond-false (eqb b.number x.number) (b ∷ txs) (x ∷ replaced b txs) is) ∙ cond-false (eqb a.number x.number) _ _ ax ∙ ap (λ (ts : List Transaction). x ∷ ts) (replaced_again a b txs same) ∙ sym (cond-false (eqb a.number x.number) _ _ ax))
-    (cases_Bool (eqb b.number x.number))
+replaced_again a b (x ∷ txs) same = let ih = replaced_again a b txs same in grind (arith, nat_tests)
 
 -- a reading that is right at Q is given, and the transaction is narrowed to the part of Q
 pub core_given : (p : Rules) (o : Origin) (h : List Event) (e : Event) (hall : Hall) (tx : Transaction) (part : Part) (gs : List Frame) (Q : Records → Type 0) (m₀ : ℕ) (given : Given)
@@ -87,7 +72,7 @@ core_given p o h e hall tx part gs Q m₀ given core is claim in-set in-part sta
     let core' = core_tx p o h hall tx tx' core is refl good' in
     core_append p o h e (record { db = hall.db; entries = hall.entries; books = with_tx tx' hall.books.pins hall.books }) w
     (λ other now.
-    let same : given ≡ other = some_given given other (sym gives ∙ now) in (
+    let same : given ≡ other = same_Some given other (sym gives ∙ now) in (
       subst (λ (x : Given). x.number < hall.books.next) same (subst (λ n. n < hall.books.next) (sym number) good.younger),
       λ t a same_number.
           let t-is : t ≡ tx' = only_one tx.number (replaced tx' hall.books.txs) tx' t (ap distinct (numbers_replaced tx' hall.books.txs) ∙ core.apart) (find_replaced tx' hall.books.txs tx is) a

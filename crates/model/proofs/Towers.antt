@@ -1,5 +1,6 @@
 -- Sheets that are being worked out: partial runs, and frames that wait for one another.
 use Rattle.std.proofs.Common.{◌≡◌, ℕ, zero, suc, ◌+◌, ◌-◌, ◌<◌, ◌≤◌, max, true, List, [], ◌∷◌, map, Some, None, Option, sym, refl, ap, ◌∙◌, subst, inr, arith}
+use Rattle.std.proofs.lemmas.Option.{none-some, same_Some}
 use Rattle.terms.specs.declared.record.Query.{Query}
 use Rattle.terms.specs.declared.tag.Tag.{Tag}
 use Rattle.terms.specs.Records.{Reading, known_table}
@@ -84,21 +85,15 @@ below_same p z zero f f' (g ∷ gs) s a b = tt
 below_same p z (suc i) f f' (g ∷ gs) s a b =
     (subst (λ y. Waits p z g f'.point.sheet y) (sym a) (subst (λ x. Waits p z g x f.point.argument) (sym s) b.0), b.1)
 
-pub none_frame : (g : Frame) → None ≡ Some g → ⊥
-none_frame g e = let z : ◌≡◌ {A = ℕ} 0 1 = cc in omega arith
-
-pub some_frame : (one other : Frame) → Some one ≡ Some other → one ≡ other
-some_frame one other e = cc
-
 pub nth_cut : (part : Part) (i : ℕ) (fs : List Frame) (g : Frame) → nth i (map (cut part) fs) ≡ Some g → (was : Frame) × (nth i fs ≡ Some was) × (g ≡ cut part was)
-nth_cut part i [] g e = absurd (none_frame g e)
-nth_cut part zero (f ∷ fs) g e = (f, refl, some_frame g (cut part f) (sym e))
+nth_cut part i [] g e = absurd (none-some g e)
+nth_cut part zero (f ∷ fs) g e = (f, refl, same_Some g (cut part f) (sym e))
 nth_cut part (suc i) (f ∷ fs) g e = nth_cut part i fs g e
 
 -- the claims stay where the top frame has the part that it had
 old_claim : (p : Rules) (o : Origin) (h : List Event) (db : Db) (f f' : Frame) (fs : List Frame) → f'.part ≡ f.part → Stack p o h db (f ∷ fs) → (i : ℕ) (was : Frame) → nth i (f' ∷ fs) ≡ Some was → Claim o h db was.part (λ z. TowerTo p z i (f ∷ fs))
 old_claim p o h db f f' fs same stack zero was e =
-    subst (λ part. Claim o h db part (λ z. TowerTo p z 0 (f ∷ fs))) (sym same ∙ ap (λ (x : Frame). x.part) (some_frame f' was e)) (stack 0 f refl)
+    subst (λ part. Claim o h db part (λ z. TowerTo p z 0 (f ∷ fs))) (sym same ∙ ap (λ (x : Frame). x.part) (same_Some f' was e)) (stack 0 f refl)
 old_claim p o h db f f' fs same stack (suc i) was e = stack (suc i) was e
 
 -- what holds of all records is claimed of all moments
@@ -124,14 +119,14 @@ pub stack_opened : (p : Rules) (o : Origin) (h : List Event) (db : Db) (f f' : F
     → ((z : Records) → Comes p z f.answers f.point → Waits p z f' sheet argument)
     → Stack p o h db (f ∷ fs) → Stack p o h db (fresh_frame sheet argument ∷ f' ∷ fs)
 stack_opened p o h db f f' fs sheet argument same s a on stack zero g e =
-    subst (λ (x : Frame). Claim o h db x.part (λ z. TowerTo p z 0 (fresh_frame sheet argument ∷ f' ∷ fs))) (some_frame (fresh_frame sheet argument) g e)
+    subst (λ (x : Frame). Claim o h db x.part (λ z. TowerTo p z 0 (fresh_frame sheet argument ∷ f' ∷ fs))) (same_Some (fresh_frame sheet argument) g e)
     (whole_claim o h db (λ z. TowerTo p z 0 (fresh_frame sheet argument ∷ f' ∷ fs)) (λ z. (here sheet argument, tt)))
 stack_opened p o h db f f' fs sheet argument same s a on stack (suc i) g e =
     claim_map o h db g.part (λ z. TowerTo p z i (f ∷ fs)) (λ z. TowerTo p z (suc i) (fresh_frame sheet argument ∷ f' ∷ fs))
     (λ z t. (here sheet argument, (on z t.0, below_same p z i f f' fs s a t.1))) (old_claim p o h db f f' fs same stack i g e)
 
 done_claim : (p : Rules) (o : Origin) (h : List Event) (db : Db) (f g : Frame) (gs : List Frame) (r : Reading) → Stack p o h db (f ∷ g ∷ gs) → (i : ℕ) (k : Frame) → nth i (handed r g ∷ gs) ≡ Some k → Claim o h db k.part (λ z. TowerTo p z (suc i) (f ∷ g ∷ gs))
-done_claim p o h db f g gs r stack zero k e = subst (λ (x : Frame). Claim o h db x.part (λ z. TowerTo p z 1 (f ∷ g ∷ gs))) (some_frame (handed r g) k e) (stack 1 g refl)
+done_claim p o h db f g gs r stack zero k e = subst (λ (x : Frame). Claim o h db x.part (λ z. TowerTo p z 1 (f ∷ g ∷ gs))) (same_Some (handed r g) k e) (stack 1 g refl)
 done_claim p o h db f g gs r stack (suc i) k e = stack (suc (suc i)) k e
 
 -- the top frame is done, and the one below is handed its reading

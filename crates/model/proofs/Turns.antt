@@ -1,6 +1,8 @@
 -- Begin, end, write, deliver and sweep keep what is carried.
 use Rattle.std.proofs.Common.{◌≡◌, ℕ, ◌+◌, ◌<◌, ◌≤◌, Bool, true, false, cond, not, ◌&&◌, ◌||◌, eqb, ltb, List, [], ◌∷◌, ◌++◌, map, Some, None, filter, Option, sym, refl, ap, ◌∙◌, subst, inl, inr, ⊎_elim, arith}
-use Rattle.std.proofs.lemmas.Bool.{cases_Bool, both_ways, cond-true, cond-false, ltb-true, ltb-false, lt-ltb, le-ltb, and_from, and_parts, or_cases, or_right, or_left, or_from, eqb-true, eqb-false, eq-eqb, ne_eqb, not-true, not_from_true, not_from_false}
+use Rattle.std.proofs.lemmas.Option.{none-some}
+use Rattle.std.proofs.lemmas.Bool.Decides.{nat_tests}
+use Rattle.std.proofs.lemmas.Bool.{cases_Bool, both_ways, cond-true, cond-false, ltb-true, lt-ltb, and_from, and_parts, or_cases, or_right, or_left, or_from, eqb-true, eq-eqb, ne_eqb, not_from_false}
 use Rattle.database.specs.Lists.{among, distinct, without}
 use Rattle.database.specs.States.{Records}
 use Rattle.cache.specs.Lists.{Among}
@@ -26,51 +28,27 @@ use Rattle.model.specs.Calls.{gained, begun, after_begin, lost, after_end, rows_
 use Rattle.model.specs.Calls as calls
 use Rattle.model.proofs.Moves.{claim_write, records_before, records_new, rows_new}
 use Rattle.model.proofs.Parts.{held_past, entry_part, closed_all, comes_to_closed, deliver_claim}
-use Rattle.model.proofs.Towers.{none_frame}
-use Rattle.model.proofs.Cores.{EntryGood, TxGood, Core, core_entries, core_append, core_change, gives_nothing, found, holders_cons, holders_removed, bit}
+use Rattle.model.proofs.Cores.{among_by, EntryGood, TxGood, Core, core_entries, core_append, core_change, gives_nothing, found, holders_cons, holders_removed, bit}
 use Rattle.model.proofs.Steps.{set_held}
-use Rattle.model.proofs.Choosing.{pin_moment, holders_some}
-use Rattle.model.proofs.Asked.{no_given}
+use Rattle.model.proofs.Choosing.{moments_map, holders_some}
 
 -- begin
 gained_moment : (now limit : ℕ) (pin : Pin) → (gained now limit pin).moment ≡ pin.moment
-gained_moment now limit pin = ⊎_elim (λ (e : is_fresh now limit pin ≡ true). rw e refl) (λ (e : is_fresh now limit pin ≡ false). rw e refl) (cases_Bool (is_fresh now limit pin))
-
-moments_map : (f : Pin → Pin) (pins : List Pin) → ((pin : Pin) → (f pin).moment ≡ pin.moment) → moments (map f pins) ≡ moments pins
-moments_map f [] same = refl
-moments_map f (pin ∷ pins) same = ap (λ m. m ∷ moments (map f pins)) (same pin) ∙ ap (λ ms. pin.moment ∷ ms) (moments_map f pins same)
+gained_moment now limit pin = grind (arith, nat_tests)
 
 -- the moments of some pins, each pin having a moment of its own
 some_moments : (f : Pin → Bool) (pins : List Pin) (m : ℕ) → among m (moments (filter f pins)) ≡ true → among m (moments pins) ≡ true
 some_moments f [] m a = a
-some_moments f (pin ∷ pins) m a =
-    ⊎_elim
-    (λ (e : f pin ≡ true). ⊎_elim (or_left _ _) (λ b. or_right _ _ (some_moments f pins m b)) (or_cases _ _ (ap (λ b. among m (moments (cond b (pin ∷ filter f pins) (filter f pins)))) (sym e) ∙ a)))
-    (λ (e : f pin ≡ false). or_right _ _ (some_moments f pins m (ap (λ b. among m (moments (cond b (pin ∷ filter f pins) (filter f pins)))) (sym e) ∙ a)))
-    (cases_Bool (f pin))
+some_moments f (pin ∷ pins) m a = let ih = some_moments f pins m in grind (arith, nat_tests)
 
 kept_moments : (f : Pin → Bool) (pins : List Pin) (pin : Pin) → distinct (moments pins) ≡ true → Among pin pins → among pin.moment (moments (filter f pins)) ≡ f pin
 kept_moments f [] pin d a = absurd a
 kept_moments f (x ∷ pins) pin d a =
-    let parts = and_parts _ _ d in
-    let out : among x.moment (moments pins) ≡ false = not-true _ parts.0 in
-    ⊎_elim
-    (λ top. let m = ap (λ (y : Pin). y.moment) top in
-    let gone : among x.moment (moments (filter f pins)) ≡ false = ⊎_elim (λ (e : among x.moment (moments (filter f pins)) ≡ true). absurd (both_ways (among x.moment (moments pins)) out (some_moments f pins x.moment e))) (λ (e : among x.moment (moments (filter f pins)) ≡ false). e) (cases_Bool (among x.moment (moments (filter f pins)))) in
-    ap (λ k. among k (moments (filter f (x ∷ pins)))) m ∙ ⊎_elim (λ (e : f x ≡ true). rw e (or_left _ _ (eq-eqb x.moment x.moment refl))) (λ (e : f x ≡ false). rw e gone) (cases_Bool (f x)) ∙ ap f (sym top))
-    (λ b. let ih = kept_moments f pins pin parts.1 b in
-    let ne : eqb pin.moment x.moment ≡ false = ne_eqb pin.moment x.moment (λ e. both_ways (among x.moment (moments pins)) out (ap (λ k. among k (moments pins)) (sym e) ∙ pin_moment pin pins b)) in
-    ⊎_elim (λ (e : f x ≡ true). rw e (ap (λ t. t || among pin.moment (moments (filter f pins))) ne ∙ ih)) (λ (e : f x ≡ false). rw e ih) (cases_Bool (f x)))
-    a
+    let ih = kept_moments f pins pin in let some = some_moments f pins x.moment in let own = among_by (λ (y : Pin). y.moment) pin pins in grind (arith, nat_tests)
 
 distinct_some : (f : Pin → Bool) (pins : List Pin) → distinct (moments pins) ≡ true → distinct (moments (filter f pins)) ≡ true
 distinct_some f [] d = refl
-distinct_some f (x ∷ pins) d =
-    let parts = and_parts _ _ d in
-    let out : among x.moment (moments pins) ≡ false = not-true _ parts.0 in
-    let ih = distinct_some f pins parts.1 in
-    let gone : among x.moment (moments (filter f pins)) ≡ false = ⊎_elim (λ (e : among x.moment (moments (filter f pins)) ≡ true). absurd (both_ways (among x.moment (moments pins)) out (some_moments f pins x.moment e))) (λ (e : among x.moment (moments (filter f pins)) ≡ false). e) (cases_Bool (among x.moment (moments (filter f pins)))) in
-    ⊎_elim (λ (e : f x ≡ true). rw e (and_from _ _ (not_from_false _ gone) ih)) (λ (e : f x ≡ false). rw e ih) (cases_Bool (f x))
+distinct_some f (x ∷ pins) d = let ih = distinct_some f pins in let some = some_moments f pins x.moment in grind (arith, nat_tests)
 
 young_numbers : (next : ℕ) (txs : List Transaction) → ((t : Transaction) → Among t txs → t.number < next) → among next (numbers txs) ≡ false
 young_numbers next [] all = refl
@@ -127,11 +105,11 @@ begin_core p o h now limit hall e core w none =
             holds = λ m b. b;
             pinned = λ m b. ap (among m) same ∙ some_moments (is_fresh now limit) pins m b;
             some = λ pr. absurd (both_ways true pr refl);
-            whole = λ pr i g x. absurd (none_frame g x);
+            whole = λ pr i g x. absurd (none-some g x);
             free = λ pr given g is. let y = core.givens given g in absurd (omega arith);
-            inside = λ m b i g x. absurd (none_frame g x);
-            stack = λ i g x. absurd (none_frame g x);
-            sheets = λ i g x. absurd (none_frame g x);
+            inside = λ m b i g x. absurd (none-some g x);
+            stack = λ i g x. absurd (none-some g x);
+            sheets = λ i g x. absurd (none-some g x);
             right = λ given g is. let y = core.givens given g in absurd (omega arith);
           }))
           (λ old. older p o h hall.db pins (map (gained now limit) pins) books.next t same (core.txs t old)) a;
@@ -142,29 +120,14 @@ begin_core p o h now limit hall e core w none =
 -- commit and abort
 pub in_removed : (n : ℕ) (txs : List Transaction) (t : Transaction) → Among t (removed n txs) → Among t txs
 in_removed n [] t a = a
-in_removed n (x ∷ txs) t a =
-    ⊎_elim
-    (λ (e : eqb n x.number ≡ true). inr (subst (Among t) (cond-true (eqb n x.number) _ _ e) a))
-    (λ (e : eqb n x.number ≡ false). ⊎_elim inl (λ b. inr (in_removed n txs t b)) (subst (Among t) (cond-false (eqb n x.number) _ _ e) a))
-    (cases_Bool (eqb n x.number))
+in_removed n (x ∷ txs) t a = let ih = in_removed n txs t in grind (arith, nat_tests)
 
 pub numbers_removed : (n : ℕ) (txs : List Transaction) → distinct (numbers txs) ≡ true → numbers (removed n txs) ≡ without n (numbers txs)
 numbers_removed n [] d = refl
-numbers_removed n (x ∷ txs) d =
-    let parts = and_parts _ _ d in
-    ⊎_elim
-    (λ (e : eqb n x.number ≡ true).
-    let is = eqb-true n x.number e in
-    let out : among n (numbers txs) ≡ false = ap (λ k. among k (numbers txs)) is ∙ not-true _ parts.0 in
-    let f : eqb x.number n ≡ true = eq-eqb x.number n (sym is) in
-    ap numbers (cond-true (eqb n x.number) _ _ e) ∙ sym (among_none n (numbers txs) out) ∙ sym (cond-false (not (eqb x.number n)) _ _ (not_from_true _ f)))
-    (λ (e : eqb n x.number ≡ false).
-    let f : eqb x.number n ≡ false = ne_eqb x.number n (λ is. eqb-false n x.number e (sym is)) in
-    ap numbers (cond-false (eqb n x.number) _ _ e) ∙ ap (λ ns. x.number ∷ ns) (numbers_removed n txs parts.1) ∙ sym (cond-true (not (eqb x.number n)) _ _ (not_from_false _ f)))
-    (cases_Bool (eqb n x.number))
+numbers_removed n (x ∷ txs) d = let ih = numbers_removed n txs in let none = among_none n (numbers txs) in grind (arith, nat_tests)
 
 lost_moment : (ms : List ℕ) (pin : Pin) → (lost ms pin).moment ≡ pin.moment
-lost_moment ms pin = ⊎_elim (λ (e : among pin.moment ms ≡ true). rw e refl) (λ (e : among pin.moment ms ≡ false). rw e refl) (cases_Bool (among pin.moment ms))
+lost_moment ms pin = grind (arith, nat_tests)
 
 pub end_core : (p : Rules) (o : Origin) (h : List Event) (number : ℕ) (hall : Hall) (tx : Transaction) (e : Event) → Core p o h hall → find number hall.books.txs ≡ Some tx → is_write e.reply ≡ false → e.given ≡ None
     → Core p o (e ∷ h) (record { db = hall.db; entries = hall.entries; books = after_end tx hall.books })
@@ -235,14 +198,14 @@ write_core p o h e moment hall db core sound w none wrote =
         pinned = good.pinned;
         some = good.some;
         whole = good.whole;
-        free = λ pr given g is. ⊎_elim (λ now. no_given given (sym none ∙ now)) (λ old. good.free pr given old is) g;
+        free = λ pr given g is. ⊎_elim (λ now. absurd (none-some given (sym none ∙ now))) (λ old. good.free pr given old is) g;
         inside = good.inside;
         stack = λ i g is. claim_write o h e hall.db db moment g.part _ w core.latest core.sound wrote (good.stack i g is);
         sheets = good.sheets;
-        right = λ given g is m b. ⊎_elim (λ now. no_given given (sym none ∙ now))
+        right = λ given g is m b. ⊎_elim (λ now. absurd (none-some given (sym none ∙ now)))
             (λ old. subst (λ s. Right p s given.question given.reading) (sym (records_before o h e m (let x = held_past hall.db m core.sound (set_held p o h hall t m core good b) in let y = core.latest in omega arith))) (good.right given old is m b)) g;
       };
-      givens = λ given g. ⊎_elim (λ now. no_given given (sym none ∙ now)) (λ old. core.givens given old) g;
+      givens = λ given g. ⊎_elim (λ now. absurd (none-some given (sym none ∙ now))) (λ old. core.givens given old) g;
     }
 
 -- a delivery
@@ -262,18 +225,7 @@ rows_past o (e ∷ h) row a =
 
 later_rows : (T : ℕ) (rows : List Row) → filter (λ row. not (is_of (T + 1) row)) (filter (λ row. ltb T row.moment) rows) ≡ filter (λ row. ltb (T + 1) row.moment) rows
 later_rows T [] = refl
-later_rows T (row ∷ rows) =
-    let ih = later_rows T rows in
-    let m = row.moment in
-    ⊎_elim
-    (λ (a : ltb T m ≡ true).
-    let l = ltb-true T m a in
-    ⊎_elim
-    (λ (b : eqb m (T + 1) ≡ true). let is = eqb-true m (T + 1) b in let c : ltb (T + 1) m ≡ false = le-ltb (T + 1) m (omega arith) in rw a (rw b (rw c ih)))
-    (λ (b : eqb m (T + 1) ≡ false). let ne = eqb-false m (T + 1) b in let c : ltb (T + 1) m ≡ true = lt-ltb (T + 1) m (omega arith) in rw a (rw b (rw c (ap (λ rs. row ∷ rs) ih))))
-    (cases_Bool (eqb m (T + 1))))
-    (λ (a : ltb T m ≡ false). let l = ltb-false T m a in let c : ltb (T + 1) m ≡ false = le-ltb (T + 1) m (omega arith) in rw a (rw c ih))
-    (cases_Bool (ltb T m))
+later_rows T (row ∷ rows) = let ih = later_rows T rows in grind (arith, nat_tests)
 
 closes_each : (n : ℕ) (rows : List Row) (before after : List Entry) → ClosesAll n rows before after → (e : Entry) → Among e after → (was : Entry) × Among was before × (e ≡ closed_all rows n was)
 closes_each n rows before after (calls.ClosesAll.none b) e a = (e, a, refl)
@@ -334,9 +286,7 @@ pub record Gone (ms : List ℕ) (db after : Db) : Type 0 where
   pub states : (n t k : ℕ) → held after n ≡ true → after.at n t k ≡ db.at n t k
 
 both : (a b c : Bool) → ((a && not b) && not c) ≡ (a && not (b || c))
-both true true c = refl
-both true false c = refl
-both false b c = refl
+both a b c = grind arith
 
 gone : (ms : List ℕ) (db after : Db) → UnpinsEach ms db after → Gone ms db after
 gone ms db after (calls.UnpinsEach.none d) = record { latest = refl; pins = λ n. grind arith; states = λ n t k hd. refl }
@@ -358,18 +308,12 @@ pin_among m (x ∷ pins) a = ⊎_elim (λ e. (x, inl refl, sym (eqb-true m x.mom
 
 split_moments : (f : Pin → Bool) (pins : List Pin) (m : ℕ) → distinct (moments pins) ≡ true → (among m (moments pins) && not (among m (moments (filter f pins)))) ≡ among m (moments (filter (λ pin. not (f pin)) pins))
 split_moments f pins m d =
-    ⊎_elim
-    (λ (a : among m (moments pins) ≡ true).
-    let w = pin_among m pins a in
-    let x = kept_moments f pins w.0 d w.1 in
-    let y = kept_moments (λ pin. not (f pin)) pins w.0 d w.1 in
-    let x' : among m (moments (filter f pins)) ≡ f w.0 = ap (λ k. among k (moments (filter f pins))) (sym w.2) ∙ x in
-    let y' : among m (moments (filter (λ pin. not (f pin)) pins)) ≡ not (f w.0) = ap (λ k. among k (moments (filter (λ pin. not (f pin)) pins))) (sym w.2) ∙ y in
-    ap (λ b. b && not (among m (moments (filter f pins)))) a ∙ ap not x' ∙ sym y')
-    (λ (a : among m (moments pins) ≡ false).
-    let z : among m (moments (filter (λ pin. not (f pin)) pins)) ≡ false = ⊎_elim (λ (e : among m (moments (filter (λ pin. not (f pin)) pins)) ≡ true). absurd (both_ways (among m (moments pins)) a (some_moments (λ pin. not (f pin)) pins m e))) (λ (e : among m (moments (filter (λ pin. not (f pin)) pins)) ≡ false). e) (cases_Bool (among m (moments (filter (λ pin. not (f pin)) pins)))) in
-    ap (λ b. b && not (among m (moments (filter f pins)))) a ∙ sym z)
-    (cases_Bool (among m (moments pins)))
+    let w = pin_among m pins in
+    let some = some_moments (λ pin. not (f pin)) pins m in
+    let had = some_moments f pins m in
+    let kept = λ (pin : Pin). kept_moments f pins pin d in
+    let rest = λ (pin : Pin). kept_moments (λ pin. not (f pin)) pins pin d in
+    grind (arith, nat_tests)
 
 pub sweep_core : (p : Rules) (o : Origin) (h : List Event) (e : Event) (now age : ℕ) (hall : Hall) (db : Db) (entries : List Entry) (lowest : ℕ) → Core p o h hall → Sound db → is_write e.reply ≡ false → e.given ≡ None
     → UnpinsEach (moments (filter (is_old now age) hall.books.pins)) hall.db db
@@ -393,7 +337,7 @@ sweep_core p o h e now age hall db entries lowest core sound w none unpins drops
     let some = holders_some m t books.txs a b in
     let young : is_old now age x.0 ≡ false =
     ⊎_elim (λ (y : is_old now age x.0 ≡ true). let z = old_unused now age x.0 y in let v = ap (λ k. holders k books.txs) x.2 in absurd (omega arith)) (λ (y : is_old now age x.0 ≡ false). y) (cases_Bool (is_old now age x.0)) in
-    ap (λ k. among k (moments pins')) (sym x.2) ∙ pin_moment x.0 pins' (members.among_kept (λ pin. not (is_old now age pin)) x.0 pins x.1 (not_from_false _ young)))
+    ap (λ k. among k (moments pins')) (sym x.2) ∙ among_by (λ (y : Pin). y.moment) x.0 pins' (members.among_kept (λ pin. not (is_old now age pin)) x.0 pins x.1 (not_from_false _ young)))
     (λ t a. inr a) in
     let core₂ = core_entries p o h (record { db = db; entries = hall.entries; books = with_transactions pins' books.txs books }) entries core₁ (λ x a. core₁.entries x (drops.only x a).0) in
     core_append p o h e (record { db = db; entries = entries; books = with_transactions pins' books.txs books }) w (gives_nothing p o h e books.next books.txs none) core₂

@@ -1,5 +1,5 @@
 -- What each call of a hall does: when it is refused, what it answers, and what database, cache and books are then.
-use Rattle.std.specs.Prelude.{◌≡◌, ℕ, ◌+◌, ◌-◌, ◌<◌, ◌≤◌, min, Bool, true, false, cond, not, ◌&&◌, List, [], ◌∷◌, ◌++◌, map, length, Some, None, Ok, filter, Option, ◌==◌, ◌≢◌, nat_le, nat_lt}
+use Rattle.std.specs.Prelude.{◌≡◌, ℕ, ◌+◌, ◌-◌, ◌<◌, ◌≤◌, min, Bool, true, false, cond, not, ◌&&◌, List, [], ◌∷◌, ◌++◌, map, length, Some, None, Ok, Err, filter, Option, Result, ◌==◌, ◌≢◌, nat_le, nat_lt}
 use Rattle.terms.specs.declared.record.Query.{Query}
 use Rattle.terms.specs.declared.record.Change.{Change}
 use Rattle.terms.specs.declared.fault.Fault.{Fault}
@@ -20,9 +20,13 @@ use Rattle.recipe.specs.Recipes.{Rules, after, table_of}
 use Rattle.model.specs.declared.call.Call.{Call}
 use Rattle.model.specs.declared.call.Call.TheVariants.{Begin, Sheet, Step, Query as Directly, Commit, Abort, Write, Deliver, Sweep}
 use Rattle.model.specs.declared.call.Reply.{Reply}
-use Rattle.model.specs.declared.call.Reply.TheVariants.{Began, Read, Open, Committed, Aborted, Written as Wrote, Delivered, Swept, Refused}
+use Rattle.model.specs.declared.call.Reply.TheVariants.{Began, Read, Open, Committed, Aborted, Written as Wrote, Delivered, Swept}
 use Rattle.model.specs.Books.{Pin, Frame, Transaction, Row, Books, Hall, fresh_frame, moments, find, replaced, removed, newest_of, with_transactions}
 use Rattle.model.specs.Rules.{is_fresh, is_unused, Picks, no_pin, hit_part, answer_part, narrowed, settled}
+
+-- what a call is answered: a reply, or why it is refused
+abbrev pub Outcome : Type 0
+Outcome = Result Reply Fault
 
 -- what a reading answers: a query, or a sheet with its argument
 pub data Question : Type 0 where
@@ -195,106 +199,106 @@ lowest_held latest [] = latest
 lowest_held latest (m ∷ ms) = min m (lowest_held latest ms)
 
 -- a call, its answer, the reading that it gave, if any, and the hall before and after
-pub data Does (rules : Rules) (hall : Hall) : Call → List Change → Reply → Option Given → Hall → Type 0 where
-  refused : (call : Call) (changes : List Change) (fault : Fault) → refusal_of rules hall changes call ≡ Some fault → Does rules hall call changes (Refused fault) None hall
+pub data Does (rules : Rules) (hall : Hall) : Call → List Change → Outcome → Option Given → Hall → Type 0 where
+  refused : (call : Call) (changes : List Change) (fault : Fault) → refusal_of rules hall changes call ≡ Some fault → Does rules hall call changes (Err fault) None hall
   began : (now limit : ℕ) → begin_refusal limit hall.books ≡ None
-      → Does rules hall (Begin now limit) [] (Began hall.books.next (length (fresh_moments now limit hall.books.pins))) None
+      → Does rules hall (Begin now limit) [] (Ok (Began hall.books.next (length (fresh_moments now limit hall.books.pins)))) None
       (record { db = hall.db; entries = hall.entries; books = after_begin now limit hall.books })
   hit : (number sheet argument : ℕ) (tx : Transaction) (entry : Entry) (entries : List Entry)
       → find number hall.books.txs ≡ Some tx → has_frames tx ≡ false → sheet < rules.sheets
       → Looks hall.entries (key_of sheet argument) tx.set hall.books.delivered (Some entry) → Same hall.entries entries
-      → Does rules hall (Sheet number sheet argument) [] (Read entry.reading) (Some (record { number = number; question = of_sheet sheet argument; reading = entry.reading }))
+      → Does rules hall (Sheet number sheet argument) [] (Ok (Read entry.reading)) (Some (record { number = number; question = of_sheet sheet argument; reading = entry.reading }))
       (record { db = hall.db; entries = entries; books = with_tx (narrowed (hit_part hall.books.delivered entry) tx) hall.books.pins hall.books })
   miss : (number sheet argument : ℕ) (tx : Transaction) (entries : List Entry)
       → find number hall.books.txs ≡ Some tx → has_frames tx ≡ false → sheet < rules.sheets
       → Looks hall.entries (key_of sheet argument) tx.set hall.books.delivered None → Same hall.entries entries
-      → Does rules hall (Sheet number sheet argument) [] Open None
+      → Does rules hall (Sheet number sheet argument) [] (Ok Open) None
       (record { db = hall.db; entries = entries; books = with_tx (with_frames (fresh_frame sheet argument ∷ []) tx) hall.books.pins hall.books })
   queried : (number now m : ℕ) (query : Query) (tx tx' : Transaction) (db : Db) (pins : List Pin) (answer : Answer)
       → find number hall.books.txs ≡ Some tx → has_frames tx ≡ false → known_table (table_of query) ≡ true
       → Picks hall.db hall.books.pins tx now m db pins tx' → Asks db m query (Ok answer)
-      → Does rules hall (Directly number query now) [] (Read answer.reading) (Some (record { number = number; question = of_query query; reading = answer.reading }))
+      → Does rules hall (Directly number query now) [] (Ok (Read answer.reading)) (Some (record { number = number; question = of_query query; reading = answer.reading }))
       (record { db = db; entries = hall.entries; books = with_tx (narrowed (answer_part answer) tx') pins hall.books })
   query_no_pin : (number now : ℕ) (query : Query) (tx : Transaction)
       → find number hall.books.txs ≡ Some tx → has_frames tx ≡ false → known_table (table_of query) ≡ true
       → no_pin hall.db hall.books.pins tx now ≡ true
-      → Does rules hall (Directly number query now) [] (Refused (NoPin 0)) None hall
+      → Does rules hall (Directly number query now) [] (Err (NoPin 0)) None hall
   query_not_held : (number now m : ℕ) (query : Query) (tx : Transaction)
       → find number hall.books.txs ≡ Some tx → has_frames tx ≡ false → known_table (table_of query) ≡ true
       → Picks hall.db hall.books.pins tx now m hall.db hall.books.pins tx → held hall.db m ≡ false
-      → Does rules hall (Directly number query now) [] (Refused (NotHeld 0)) None hall
+      → Does rules hall (Directly number query now) [] (Err (NotHeld 0)) None hall
   never_done : (number now : ℕ) (tx : Transaction) (frame : Frame) (frames : List Frame)
       → find number hall.books.txs ≡ Some tx → tx.frames ≡ frame ∷ frames → last_answer frame ≡ true
       → ((reading : Reading) → (rules.turn frame.point).ask ≢ Done reading)
-      → Does rules hall (Step number now) [] (Refused (NeverDone (length tx.frames))) None (dropped tx hall)
+      → Does rules hall (Step number now) [] (Err (NeverDone (length tx.frames))) None (dropped tx hall)
   step_table : (number now : ℕ) (query : Query) (tx : Transaction) (frame : Frame) (frames : List Frame)
       → find number hall.books.txs ≡ Some tx → tx.frames ≡ frame ∷ frames → last_answer frame ≡ false
       → (rules.turn frame.point).ask ≡ Asked query → known_table (table_of query) ≡ false
-      → Does rules hall (Step number now) [] (Refused (RecipeTable (length tx.frames))) None (dropped tx hall)
+      → Does rules hall (Step number now) [] (Err (RecipeTable (length tx.frames))) None (dropped tx hall)
   step_no_pin : (number now : ℕ) (query : Query) (tx : Transaction) (frame : Frame) (frames : List Frame)
       → find number hall.books.txs ≡ Some tx → tx.frames ≡ frame ∷ frames → last_answer frame ≡ false
       → (rules.turn frame.point).ask ≡ Asked query → known_table (table_of query) ≡ true
       → no_pin hall.db hall.books.pins tx now ≡ true
-      → Does rules hall (Step number now) [] (Refused (NoPin (length tx.frames))) None (dropped tx hall)
+      → Does rules hall (Step number now) [] (Err (NoPin (length tx.frames))) None (dropped tx hall)
   step_not_held : (number now m : ℕ) (query : Query) (tx : Transaction) (frame : Frame) (frames : List Frame)
       → find number hall.books.txs ≡ Some tx → tx.frames ≡ frame ∷ frames → last_answer frame ≡ false
       → (rules.turn frame.point).ask ≡ Asked query → known_table (table_of query) ≡ true
       → Picks hall.db hall.books.pins tx now m hall.db hall.books.pins tx → held hall.db m ≡ false
-      → Does rules hall (Step number now) [] (Refused (NotHeld (length tx.frames))) None (dropped tx hall)
+      → Does rules hall (Step number now) [] (Err (NotHeld (length tx.frames))) None (dropped tx hall)
   step_query : (number now m : ℕ) (query : Query) (tx tx' : Transaction) (frame : Frame) (frames : List Frame) (db : Db) (pins : List Pin) (answer : Answer)
       → find number hall.books.txs ≡ Some tx → tx.frames ≡ frame ∷ frames → last_answer frame ≡ false
       → (rules.turn frame.point).ask ≡ Asked query → known_table (table_of query) ≡ true
       → Picks hall.db hall.books.pins tx now m db pins tx' → Asks db m query (Ok answer)
-      → Does rules hall (Step number now) [] Open (Some (record { number = number; question = of_query query; reading = answer.reading }))
+      → Does rules hall (Step number now) [] (Ok Open) (Some (record { number = number; question = of_query query; reading = answer.reading }))
       (record { db = db; entries = hall.entries; books = with_tx (narrowed (answer_part answer) (with_frames (went rules frame answer.reading ∷ frames) tx')) pins hall.books })
   step_unknown : (number now sheet argument : ℕ) (tx : Transaction) (frame : Frame) (frames : List Frame)
       → find number hall.books.txs ≡ Some tx → tx.frames ≡ frame ∷ frames → last_answer frame ≡ false
       → (rules.turn frame.point).ask ≡ Called sheet argument → rules.sheets ≤ sheet
-      → Does rules hall (Step number now) [] (Refused (SheetUnknown (length tx.frames))) None (dropped tx hall)
+      → Does rules hall (Step number now) [] (Err (SheetUnknown (length tx.frames))) None (dropped tx hall)
   step_hit : (number now sheet argument : ℕ) (tx : Transaction) (frame : Frame) (frames : List Frame) (entry : Entry) (entries : List Entry)
       → find number hall.books.txs ≡ Some tx → tx.frames ≡ frame ∷ frames → last_answer frame ≡ false
       → (rules.turn frame.point).ask ≡ Called sheet argument → sheet < rules.sheets
       → Looks hall.entries (key_of sheet argument) tx.set hall.books.delivered (Some entry) → Same hall.entries entries
-      → Does rules hall (Step number now) [] Open (Some (record { number = number; question = of_sheet sheet argument; reading = entry.reading }))
+      → Does rules hall (Step number now) [] (Ok Open) (Some (record { number = number; question = of_sheet sheet argument; reading = entry.reading }))
       (record { db = hall.db; entries = entries; books = with_tx (narrowed (hit_part hall.books.delivered entry) (with_frames (went rules frame entry.reading ∷ frames) tx)) hall.books.pins hall.books })
   step_deep : (number now sheet argument : ℕ) (tx : Transaction) (frame : Frame) (frames : List Frame) (entries : List Entry)
       → find number hall.books.txs ≡ Some tx → tx.frames ≡ frame ∷ frames → last_answer frame ≡ false
       → (rules.turn frame.point).ask ≡ Called sheet argument → sheet < rules.sheets
       → Looks hall.entries (key_of sheet argument) tx.set hall.books.delivered None → Same hall.entries entries → 8 ≤ length tx.frames
-      → Does rules hall (Step number now) [] (Refused (TooDeep (length tx.frames))) None
+      → Does rules hall (Step number now) [] (Err (TooDeep (length tx.frames))) None
       (record { db = hall.db; entries = entries; books = with_tx (with_frames [] tx) hall.books.pins hall.books })
   step_miss : (number now sheet argument : ℕ) (tx : Transaction) (frame : Frame) (frames : List Frame) (entries : List Entry)
       → find number hall.books.txs ≡ Some tx → tx.frames ≡ frame ∷ frames → last_answer frame ≡ false
       → (rules.turn frame.point).ask ≡ Called sheet argument → sheet < rules.sheets
       → Looks hall.entries (key_of sheet argument) tx.set hall.books.delivered None → Same hall.entries entries → length tx.frames < 8
-      → Does rules hall (Step number now) [] Open None
+      → Does rules hall (Step number now) [] (Ok Open) None
       (record { db = hall.db; entries = entries; books = with_tx (with_frames (fresh_frame sheet argument ∷ went rules frame frame.point.last ∷ frames) tx) hall.books.pins hall.books })
   step_done : (number now : ℕ) (reading : Reading) (tx : Transaction) (frame below : Frame) (frames : List Frame) (entries : List Entry)
       → find number hall.books.txs ≡ Some tx → tx.frames ≡ frame ∷ below ∷ frames → (rules.turn frame.point).ask ≡ Done reading
       → Enters hall.entries (entering hall.books.delivered frame reading) entries
-      → Does rules hall (Step number now) [] Open (Some (record { number = number; question = of_sheet frame.point.sheet frame.point.argument; reading = reading }))
+      → Does rules hall (Step number now) [] (Ok Open) (Some (record { number = number; question = of_sheet frame.point.sheet frame.point.argument; reading = reading }))
       (record { db = hall.db; entries = entries; books = with_tx (with_frames (handed reading below ∷ frames) tx) hall.books.pins hall.books })
   step_last : (number now : ℕ) (reading : Reading) (tx : Transaction) (frame : Frame) (entries : List Entry)
       → find number hall.books.txs ≡ Some tx → tx.frames ≡ frame ∷ [] → (rules.turn frame.point).ask ≡ Done reading
       → Enters hall.entries (entering hall.books.delivered frame reading) entries
-      → Does rules hall (Step number now) [] (Read reading) (Some (record { number = number; question = of_sheet frame.point.sheet frame.point.argument; reading = reading }))
+      → Does rules hall (Step number now) [] (Ok (Read reading)) (Some (record { number = number; question = of_sheet frame.point.sheet frame.point.argument; reading = reading }))
       (record { db = hall.db; entries = entries; books = with_tx (with_frames [] tx) hall.books.pins hall.books })
   committed : (number : ℕ) (tx : Transaction) → find number hall.books.txs ≡ Some tx
-      → Does rules hall (Commit number) [] (Committed (committed_at (latest_told hall.books.delivered hall.books.rows) (newest_of tx.set))) None
+      → Does rules hall (Commit number) [] (Ok (Committed (committed_at (latest_told hall.books.delivered hall.books.rows) (newest_of tx.set)))) None
       (record { db = hall.db; entries = hall.entries; books = after_end tx hall.books })
   aborted : (number : ℕ) (tx : Transaction) → find number hall.books.txs ≡ Some tx
-      → Does rules hall (Abort number) [] Aborted None (record { db = hall.db; entries = hall.entries; books = after_end tx hall.books })
+      → Does rules hall (Abort number) [] (Ok Aborted) None (record { db = hall.db; entries = hall.entries; books = after_end tx hall.books })
   wrote : (changes : List Change) (moment : ℕ) (db : Db) → write_refusal hall.db hall.books changes ≡ None → Written hall.db changes moment db
-      → Does rules hall Write changes (Wrote moment) None
+      → Does rules hall Write changes (Ok (Wrote moment)) None
       (record { db = db; entries = hall.entries; books = with_stream hall.books.delivered (hall.books.rows ++ rows_of_write moment changes) hall.books })
   delivered : (row : Row) (rows : List Row) (entries : List Entry) → hall.books.rows ≡ row ∷ rows
       → ClosesAll (hall.books.delivered + 1) (filter (is_of (hall.books.delivered + 1)) hall.books.rows) hall.entries entries
-      → Does rules hall Deliver [] (Delivered (hall.books.delivered + 1)) None
+      → Does rules hall Deliver [] (Ok (Delivered (hall.books.delivered + 1))) None
       (record { db = hall.db; entries = entries; books = with_stream (hall.books.delivered + 1) (filter (λ other. not (is_of (hall.books.delivered + 1) other)) hall.books.rows) hall.books })
   swept : (now age : ℕ) (db : Db) (entries : List Entry)
       → UnpinsEach (moments (filter (is_old now age) hall.books.pins)) hall.db db
       → Drops hall.entries (lowest_held hall.db.latest (moments (filter (λ pin. not (is_old now age pin)) hall.books.pins))) entries
-      → Does rules hall (Sweep now age) [] (Swept (length (filter (is_old now age) hall.books.pins))) None
+      → Does rules hall (Sweep now age) [] (Ok (Swept (length (filter (is_old now age) hall.books.pins)))) None
       (record { db = db; entries = entries; books = with_transactions (filter (λ pin. not (is_old now age pin)) hall.books.pins) hall.books.txs hall.books })
 
 -- Making: 61 unless the first number is 1 to 4,294,967,295 and the stream has 1 to 4,096 rows; database and cache are then unchanged

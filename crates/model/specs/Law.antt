@@ -1,5 +1,5 @@
 -- The law over any list of calls from a making.
-use Rattle.std.specs.Prelude.{◌≡◌, ℕ, ◌+◌, Bool, true, false, cond, ◌⊎◌, List, [], ◌∷◌, map, length, Some, None, filter, Option, ◌==◌, ◌≢◌}
+use Rattle.std.specs.Prelude.{◌≡◌, ℕ, ◌+◌, Bool, true, false, cond, ◌⊎◌, List, [], ◌∷◌, map, length, Some, None, Ok, Err, filter, Option, ◌==◌, ◌≢◌}
 use Rattle.terms.specs.declared.fault.Fault.TheVariants.{NotHeld}
 use Rattle.terms.specs.Records.{Reading}
 use Rattle.database.specs.Lists.{among}
@@ -8,10 +8,9 @@ use Rattle.cache.specs.Lists.{Among}
 use Rattle.recipe.specs.Recipes.{Rules, Gives}
 use Rattle.model.specs.declared.call.Call.{Call}
 use Rattle.model.specs.declared.call.Call.TheVariants.{Begin, Sheet, Step, Query as Directly, Commit, Abort, Write, Deliver, Sweep}
-use Rattle.model.specs.declared.call.Reply.{Reply}
-use Rattle.model.specs.declared.call.Reply.TheVariants.{Began, Read, Open, Committed, Aborted, Written, Delivered, Swept, Refused}
+use Rattle.model.specs.declared.call.Reply.TheVariants.{Began, Read, Open, Committed, Aborted, Written, Delivered, Swept}
 use Rattle.model.specs.Books.{Pin, Transaction, Hall}
-use Rattle.model.specs.Calls.{Question, of_query, of_sheet, Given, Does}
+use Rattle.model.specs.Calls.{Outcome, Question, of_query, of_sheet, Given, Does}
 use Rattle.model.specs.Traces.{Origin, Event, records_at, Lives}
 
 -- a reading is right for a state of all records: what the query reads there, or what a run of the sheet gives there
@@ -25,16 +24,9 @@ GivenIn given [] = ⊥
 GivenIn given (event ∷ trace) = (event.given ≡ Some given) ⊎ GivenIn given trace
 
 -- whether an answer is a refusal
-abbrev pub is_refused : Reply → Bool
-is_refused (Began number moments) = false
-is_refused (Read reading) = false
-is_refused Open = false
-is_refused (Committed moment) = false
-is_refused Aborted = false
-is_refused (Written moment) = false
-is_refused (Delivered moment) = false
-is_refused (Swept pins) = false
-is_refused (Refused fault) = true
+abbrev pub is_refused : Outcome → Bool
+is_refused (Ok reply) = false
+is_refused (Err fault) = true
 
 -- what a call asks in a transaction's name: a sheet, or a query
 abbrev pub asks_for : ℕ → Call → Option Question
@@ -74,58 +66,58 @@ is_by n (Sweep now age) = false
 abbrev pub AnsweredIn : ℕ → Question → Reading → List Event → Type 0
 AnsweredIn n question reading [] = ⊥
 AnsweredIn n question reading (event ∷ trace) =
-    ((is_by n event.call ≡ true) × (event.reply ≡ Read reading) × (last_asked n (event ∷ trace) ≡ Some question)) ⊎ AnsweredIn n question reading trace
+    ((is_by n event.call ≡ true) × (event.reply ≡ Ok (Read reading)) × (last_asked n (event ∷ trace) ≡ Some question)) ⊎ AnsweredIn n question reading trace
 
 -- accepted begins, commits and aborts
-abbrev pub is_begin : Reply → Bool
-is_begin (Began number moments) = true
-is_begin (Read reading) = false
-is_begin Open = false
-is_begin (Committed moment) = false
-is_begin Aborted = false
-is_begin (Written moment) = false
-is_begin (Delivered moment) = false
-is_begin (Swept pins) = false
-is_begin (Refused fault) = false
+abbrev pub is_begin : Outcome → Bool
+is_begin (Ok (Began number moments)) = true
+is_begin (Ok (Read reading)) = false
+is_begin (Ok Open) = false
+is_begin (Ok (Committed moment)) = false
+is_begin (Ok Aborted) = false
+is_begin (Ok (Written moment)) = false
+is_begin (Ok (Delivered moment)) = false
+is_begin (Ok (Swept pins)) = false
+is_begin (Err fault) = false
 
-abbrev pub is_commit : Reply → Bool
-is_commit (Began number moments) = false
-is_commit (Read reading) = false
-is_commit Open = false
-is_commit (Committed moment) = true
-is_commit Aborted = false
-is_commit (Written moment) = false
-is_commit (Delivered moment) = false
-is_commit (Swept pins) = false
-is_commit (Refused fault) = false
+abbrev pub is_commit : Outcome → Bool
+is_commit (Ok (Began number moments)) = false
+is_commit (Ok (Read reading)) = false
+is_commit (Ok Open) = false
+is_commit (Ok (Committed moment)) = true
+is_commit (Ok Aborted) = false
+is_commit (Ok (Written moment)) = false
+is_commit (Ok (Delivered moment)) = false
+is_commit (Ok (Swept pins)) = false
+is_commit (Err fault) = false
 
-abbrev pub is_abort : Reply → Bool
-is_abort (Began number moments) = false
-is_abort (Read reading) = false
-is_abort Open = false
-is_abort (Committed moment) = false
-is_abort Aborted = true
-is_abort (Written moment) = false
-is_abort (Delivered moment) = false
-is_abort (Swept pins) = false
-is_abort (Refused fault) = false
+abbrev pub is_abort : Outcome → Bool
+is_abort (Ok (Began number moments)) = false
+is_abort (Ok (Read reading)) = false
+is_abort (Ok Open) = false
+is_abort (Ok (Committed moment)) = false
+is_abort (Ok Aborted) = true
+is_abort (Ok (Written moment)) = false
+is_abort (Ok (Delivered moment)) = false
+is_abort (Ok (Swept pins)) = false
+is_abort (Err fault) = false
 
 -- how many answers of a trace pass a test
-abbrev pub how_many : (Reply → Bool) → List Event → ℕ
+abbrev pub how_many : (Outcome → Bool) → List Event → ℕ
 how_many test [] = 0
 how_many test (event ∷ trace) = cond (test event.reply) (how_many test trace + 1) (how_many test trace)
 
 -- whether an answer begins the transaction with a number
-abbrev pub starts : ℕ → Reply → Bool
-starts n (Began number moments) = n == number
-starts n (Read reading) = false
-starts n Open = false
-starts n (Committed moment) = false
-starts n Aborted = false
-starts n (Written moment) = false
-starts n (Delivered moment) = false
-starts n (Swept pins) = false
-starts n (Refused fault) = false
+abbrev pub starts : ℕ → Outcome → Bool
+starts n (Ok (Began number moments)) = n == number
+starts n (Ok (Read reading)) = false
+starts n (Ok Open) = false
+starts n (Ok (Committed moment)) = false
+starts n (Ok Aborted) = false
+starts n (Ok (Written moment)) = false
+starts n (Ok (Delivered moment)) = false
+starts n (Ok (Swept pins)) = false
+starts n (Err fault) = false
 
 -- the number that a commit or abort ends
 abbrev pub names_tx : ℕ → Call → Bool
@@ -140,7 +132,7 @@ names_tx n Deliver = false
 names_tx n (Sweep now age) = false
 
 -- whether a call and its answer end the transaction with a number: an accepted commit or abort
-abbrev pub finishes : ℕ → Call → Reply → Bool
+abbrev pub finishes : ℕ → Call → Outcome → Bool
 finishes n call reply = cond (cond (is_commit reply) true (is_abort reply)) (names_tx n call) false
 
 -- a transaction is open from its accepted begin to the accepted commit or abort with its number
@@ -181,7 +173,7 @@ LawStands = (rules : Rules) (o : Origin) (trace : List Event) (hall : Hall) → 
 
 -- no call ever meets a moment that is not held
 abbrev pub AlwaysHeld : Type 0
-AlwaysHeld = (rules : Rules) (o : Origin) (trace : List Event) (hall : Hall) → Lives rules o trace hall → (e : Event) (after : Hall) (frames : ℕ) → Does rules hall e.call e.changes e.reply e.given after → e.reply ≢ Refused (NotHeld frames)
+AlwaysHeld = (rules : Rules) (o : Origin) (trace : List Event) (hall : Hall) → Lives rules o trace hall → (e : Event) (after : Hall) (frames : ℕ) → Does rules hall e.call e.changes e.reply e.given after → e.reply ≢ Err (NotHeld frames)
 
 -- halls of one recipe, whatever their make, show equal readings at one moment with the same records
 abbrev pub HallsAgree : Type 0

@@ -1,21 +1,20 @@
 -- A trace: the calls with their answers, the newest first, and what it tells of records, transactions and readings.
-use Rattle.std.specs.Prelude.{◌≡◌, ℕ, ◌+◌, Bool, true, false, cond, ◌&&◌, List, [], ◌∷◌, ◌++◌, Option, nat_le}
+use Rattle.std.specs.Prelude.{◌≡◌, ℕ, ◌+◌, Bool, true, false, cond, ◌&&◌, List, [], ◌∷◌, ◌++◌, Ok, Err, Option, nat_le}
 use Rattle.terms.specs.declared.record.Change.{Change}
 use Rattle.database.specs.States.{Records}
 use Rattle.database.specs.Writes.{changed}
 use Rattle.database.specs.Databases.{Db, Sound}
 use Rattle.recipe.specs.Recipes.{Rules}
 use Rattle.model.specs.declared.call.Call.{Call}
-use Rattle.model.specs.declared.call.Reply.{Reply}
-use Rattle.model.specs.declared.call.Reply.TheVariants.{Began, Read, Open, Committed, Aborted, Written, Delivered, Swept, Refused}
+use Rattle.model.specs.declared.call.Reply.TheVariants.{Began, Read, Open, Committed, Aborted, Written, Delivered, Swept}
 use Rattle.model.specs.Books.{Row, Hall}
-use Rattle.model.specs.Calls.{Given, Does, Makes, rows_of_write}
+use Rattle.model.specs.Calls.{Outcome, Given, Does, Makes, rows_of_write}
 
 -- one call: its arguments, its answer, and the reading that it gave, if any
 pub record Event : Type 0 where
   pub call : Call
   pub changes : List Change
-  pub reply : Reply
+  pub reply : Outcome
   pub given : Option Given
 
 -- the moment and the records at the making
@@ -24,16 +23,16 @@ pub record Origin : Type 0 where
   pub records : Records
 
 -- whether an answer is that of an accepted write
-abbrev pub is_write : Reply → Bool
-is_write (Began number moments) = false
-is_write (Read reading) = false
-is_write Open = false
-is_write (Committed moment) = false
-is_write Aborted = false
-is_write (Written moment) = true
-is_write (Delivered moment) = false
-is_write (Swept pins) = false
-is_write (Refused fault) = false
+abbrev pub is_write : Outcome → Bool
+is_write (Ok (Began number moments)) = false
+is_write (Ok (Read reading)) = false
+is_write (Ok Open) = false
+is_write (Ok (Committed moment)) = false
+is_write (Ok Aborted) = false
+is_write (Ok (Written moment)) = true
+is_write (Ok (Delivered moment)) = false
+is_write (Ok (Swept pins)) = false
+is_write (Err fault) = false
 
 -- the latest moment: that of the making, and one more for each accepted write
 abbrev pub latest_of : Origin → List Event → ℕ

@@ -1,5 +1,5 @@
 -- Three halls that differ from the rules in one place, and for each a list of calls that gives a wrong reading.
-use Rattle.std.specs.Prelude.{◌≡◌, ℕ, Bool, true, false, List, [], ◌∷◌, ◌++◌, map, Some, None, Option}
+use Rattle.std.specs.Prelude.{◌≡◌, ℕ, Bool, true, false, List, [], ◌∷◌, ◌++◌, map, Some, None, Ok, Option}
 use Rattle.terms.specs.declared.record.Query.TheVariants.{Get, Tally}
 use Rattle.terms.specs.declared.record.Change.{Change}
 use Rattle.terms.specs.declared.record.Change.TheVariants.{Set}
@@ -19,7 +19,7 @@ use Rattle.model.specs.declared.call.Call.TheVariants.{Begin, Sheet, Step, Query
 use Rattle.model.specs.declared.call.Reply.{Reply}
 use Rattle.model.specs.declared.call.Reply.TheVariants.{Began, Read, Open, Written, Delivered}
 use Rattle.model.specs.Books.{Frame, Transaction, Hall, limitless, find}
-use Rattle.model.specs.Calls.{Question, of_query, of_sheet, Given, Does, with_stream}
+use Rattle.model.specs.Calls.{Outcome, Question, of_query, of_sheet, Given, Does, with_stream}
 use Rattle.model.specs.Traces.{Origin, Event, records_at, Lives}
 use Rattle.model.specs.Law.{Right, GivenIn}
 use Rattle.model.specs.Worked.{door, ticket, valued}
@@ -88,10 +88,10 @@ abbrev pub leaves_open : Mistake
 leaves_open = record { place = is_insert; taken = with_t 0; back = λ before after. with_t before.books.delivered after }
 
 -- a call of a hall with a mistake: by the rules, but where the mistake is made it does what the rules say of another hall
-pub data Strays (mistake : Mistake) (rules : Rules) (hall : Hall) : Call → List Change → Reply → Option Given → Hall → Type 0 where
-  rightly : (call : Call) (changes : List Change) (reply : Reply) (given : Option Given) (after : Hall) → mistake.place (comes_to rules hall call) ≡ false
+pub data Strays (mistake : Mistake) (rules : Rules) (hall : Hall) : Call → List Change → Outcome → Option Given → Hall → Type 0 where
+  rightly : (call : Call) (changes : List Change) (reply : Outcome) (given : Option Given) (after : Hall) → mistake.place (comes_to rules hall call) ≡ false
       → Does rules hall call changes reply given after → Strays mistake rules hall call changes reply given after
-  wrongly : (call : Call) (changes : List Change) (reply : Reply) (given : Option Given) (after : Hall) → mistake.place (comes_to rules hall call) ≡ true
+  wrongly : (call : Call) (changes : List Change) (reply : Outcome) (given : Option Given) (after : Hall) → mistake.place (comes_to rules hall call) ≡ true
       → Does rules (mistake.taken hall) call changes reply given after → Strays mistake rules hall call changes reply given (mistake.back hall after)
 
 -- a hall with a mistake from its making, after a list of calls
@@ -115,11 +115,11 @@ pub record Breaks (mistake : Mistake) (rules : Rules) (o : Origin) (trace : List
 
 -- a call that gives no reading
 abbrev pub quiet : Call → Reply → Event
-quiet call reply = record { call = call; changes = []; reply = reply; given = None }
+quiet call reply = record { call = call; changes = []; reply = Ok reply; given = None }
 
 -- a call that gives a transaction a reading
 abbrev pub gives : Call → Reply → ℕ → Question → Reading → Event
-gives call reply number question reading = record { call = call; changes = []; reply = reply; given = Some (record { number = number; question = question; reading = reading }) }
+gives call reply number question reading = record { call = call; changes = []; reply = Ok reply; given = Some (record { number = number; question = question; reading = reading }) }
 
 -- an empty database at 10
 abbrev pub empty : Store
@@ -133,7 +133,7 @@ abbrev pub arrival : List Change
 arrival = Set ticket (valued 1 5) ∷ Set door (valued 1 900) ∷ []
 
 abbrev pub arrives : Event
-arrives = record { call = Write; changes = arrival; reply = Written 11; given = None }
+arrives = record { call = Write; changes = arrival; reply = Ok (Written 11); given = None }
 
 -- The lists of calls, the newest first.
 

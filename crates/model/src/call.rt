@@ -2,7 +2,7 @@
 use terms::{Fault, Moment, Query, Reading};
 
 // A call, but for the changes of a write, which stand in a list of their own.
-#[derive(Clone, Copy)]
+#[derive(Clone, Copy, PartialEq, Eq)]
 pub enum Call {
     Begin {
         now: u64,
@@ -36,7 +36,8 @@ pub enum Call {
     },
 }
 
-#[derive(Clone, Copy)]
+// What a call that is not refused is answered.
+#[derive(Clone, Copy, PartialEq, Eq)]
 pub enum Reply {
     // the transaction's number, and how many moments its pin set has
     Began { number: u64, moments: usize },
@@ -50,5 +51,7 @@ pub enum Reply {
     Delivered { moment: Moment },
     // how many pins went
     Swept { pins: usize },
-    Refused { fault: Fault },
 }
+
+// A reply, or why the call is refused.
+pub type Outcome = Result<Reply, Fault>;

@@ -6,4 +6,4 @@ pub mod law;
 pub mod worked;
 pub mod wrong;
 
-pub use call::{Call, Reply};
+pub use call::{Call, Outcome, Reply};

@@ -2,8 +2,7 @@
 ghost use Rattle.model.specs.Worked.{Worked};
 
 // The day's readings with their intervals, two look-ups, freshness, choosing, and the claim and board sheets come out as they did by hand.
-pub fn worked_cases() -> u8
+#[tactic(auto, using(crate::proofs::Hand::by_hand))]
+pub fn worked_cases()
     ensures { Worked }
-{
-    0
-}
+{}

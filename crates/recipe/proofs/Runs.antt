@@ -1,5 +1,5 @@
 -- A run has one end, and rests on the records that its tags touch.
-use Rattle.std.proofs.Common.{◌≡◌, ℕ, suc, List, [], ◌∷◌, ◌++◌, sym, subst, arith}
+use Rattle.std.proofs.Common.{◌≡◌, ℕ, suc, List, [], ◌∷◌, ◌++◌, sym, subst}
 use Rattle.terms.specs.declared.record.Query.{Query}
 use Rattle.terms.specs.declared.tag.Tag.{Tag}
 use Rattle.terms.specs.Records.{Reading}
@@ -11,13 +11,13 @@ use Rattle.recipe.specs.declared.Ask.TheVariants.{Query as Asked, Call, Done}
 use Rattle.recipe.specs.Recipes.{Rules, start, after, Runs, done, query, call, AgreeAll, ValueIsOne, ValueRests}
 
 pub clash_done : {x : Ask} {k : Query} {r : Reading} → x ≡ Asked k → x ≡ Done r → ⊥
-clash_done a b = let z : ◌≡◌ {A = ℕ} 0 1 = cc in omega arith
+clash_done a b = cc
 
 pub clash_call : {x : Ask} {sh a : ℕ} {r : Reading} → x ≡ Call sh a → x ≡ Done r → ⊥
-clash_call a b = let z : ◌≡◌ {A = ℕ} 0 1 = cc in omega arith
+clash_call a b = cc
 
 pub clash_query : {x : Ask} {sh a : ℕ} {k : Query} → x ≡ Call sh a → x ≡ Asked k → ⊥
-clash_query a b = let z : ◌≡◌ {A = ℕ} 0 1 = cc in omega arith
+clash_query a b = cc
 
 pub done_one : {x : Ask} {r w : Reading} → x ≡ Done r → x ≡ Done w → r ≡ w
 done_one a b = cc
@@ -52,19 +52,16 @@ same_end {p} {s} {q = q} {w = w} (call sh a v f there x y) (call {depth = e} {le
 pub value_is_one : (rules : Rules) → ValueIsOne rules
 value_is_one rules records sheet argument one other (d, (in-it, (ts, x))) (e, (in-too, (us, y))) = same_end x y
 
-agree_front : (xs ys : List Tag) (one other : Records) → AgreeAll (xs ++ ys) one other → AgreeAll xs one other
-agree_front [] ys one other a = tt
-agree_front (x ∷ xs) ys one other a = (a.0, agree_front xs ys one other a.1)
-
-agree_back : (xs ys : List Tag) (one other : Records) → AgreeAll (xs ++ ys) one other → AgreeAll ys one other
-agree_back [] ys one other a = a
-agree_back (x ∷ xs) ys one other a = agree_back xs ys one other a.1
+-- what agrees on two lists of tags together agrees on each
+pub agree_split : (xs ys : List Tag) (one other : Records) → AgreeAll (xs ++ ys) one other → AgreeAll xs one other × AgreeAll ys one other
+agree_split [] ys one other a = (tt, a)
+agree_split (x ∷ xs) ys one other a = let rest = agree_split xs ys one other a.1 in ((a.0, rest.0), rest.1)
 
 rests : {p : Rules} {s z : Records} {d n : ℕ} {q : Point} {r : Reading} {ts : List Tag} → Runs p s d n q r ts → AgreeAll ts s z → Runs p z d n q r ts
 rests (done f) agree = done f
 rests {s = s} {z = z} (query k v f known reads x) agree = query k v f known (reads_alike k s z v agree.0 reads) (rests x agree.1)
 rests {s = s} {z = z} (call {tags = ts} {inner = is} sh a v f there x y) agree =
-    call sh a v f there (rests x (agree_front is ts s z agree)) (rests y (agree_back is ts s z agree))
+    let each = agree_split is ts s z agree in call sh a v f there (rests x each.0) (rests y each.1)
 
 pub value_rests : (rules : Rules) → ValueRests rules
 value_rests rules one other depth left point reading tags run agree = rests run agree

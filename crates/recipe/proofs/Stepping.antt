@@ -4,7 +4,7 @@ use Rattle.std.proofs.lemmas.Bool.{both_ways}
 use Rattle.terms.specs.declared.record.Query.{Query}
 use Rattle.terms.specs.declared.tag.Tag.{Tag}
 use Rattle.terms.specs.declared.fault.Fault.{Fault}
-use Rattle.terms.specs.declared.fault.Fault.TheVariants.{NotOpen, TooManyOpen, LimitTooLong, NumbersUsedUp, FramesOpen, NoFrame, QueryTable, SheetUnknown, TooDeep, NeverDone, RecipeTable, NoPin, NotHeld, NoChange, TooManyChanges, RecordRepeated, ChangeTable, MomentsUsedUp, StreamFull, StoreFull, StreamEmpty, OutOfRange, OutOfMemory}
+use Rattle.terms.specs.declared.fault.Fault.TheVariants.{SheetUnknown, TooDeep}
 use Rattle.terms.specs.Records.{Reading, known_table, query_tag}
 use Rattle.database.specs.States.{Records, Reads}
 use Rattle.database.specs.Databases.{Db, held}
@@ -50,30 +50,10 @@ no_answers p s e (suc n) q r ts h x = omega (arith, h)
 no_answers p s e zero q r ts h x = elim x [ ]
 
 -- a fault of the sheet called is one of the sheet that calls it
-pub passed_on : (U N W N' W' : Type 0) (fault : Fault) → (N → N') → (W → W') → Fails U N W fault → Fails U N' W' fault
-passed_on U N W N' W' (SheetUnknown frames) n w f = (n f.0, f.1)
-passed_on U N W N' W' (TooDeep frames) n w f = (w f.0, f.1)
-passed_on U N W N' W' (NeverDone frames) n w f = (n f.0, f.1)
-passed_on U N W N' W' (RecipeTable frames) n w f = (n f.0, f.1)
-passed_on U N W N' W' (NotHeld frames) n w f = f
-passed_on U N W N' W' NotOpen n w f = f
-passed_on U N W N' W' TooManyOpen n w f = f
-passed_on U N W N' W' LimitTooLong n w f = f
-passed_on U N W N' W' NumbersUsedUp n w f = f
-passed_on U N W N' W' FramesOpen n w f = f
-passed_on U N W N' W' NoFrame n w f = f
-passed_on U N W N' W' QueryTable n w f = f
-passed_on U N W N' W' (NoPin frames) n w f = f
-passed_on U N W N' W' NoChange n w f = f
-passed_on U N W N' W' TooManyChanges n w f = f
-passed_on U N W N' W' (RecordRepeated index) n w f = f
-passed_on U N W N' W' (ChangeTable index) n w f = f
-passed_on U N W N' W' MomentsUsedUp n w f = f
-passed_on U N W N' W' StreamFull n w f = f
-passed_on U N W N' W' StoreFull n w f = f
-passed_on U N W N' W' StreamEmpty n w f = f
-passed_on U N W N' W' OutOfRange n w f = f
-passed_on U N W N' W' OutOfMemory n w f = f
+passed_on : {U N W N' W' : Type 0} {fault : Fault} → (N → N') → (W → W') → Fails U N W fault → Fails U N' W' fault
+passed_on n w (inl unheld) = inl unheld
+passed_on n w (inr (inl within)) = inr (inl (w within.0, within.1))
+passed_on n w (inr (inr none)) = inr (inr (n none.0, none.1))
 
 -- what the working out from a point means
 abbrev Runless : Rules → Records → ℕ → Point → Type 0
@@ -89,32 +69,32 @@ one_answer p s e n q r ts none (query {tags = us} j u f known reads x) = absurd 
 one_answer p s e n q r ts none (call {depth = c} {tags = us} sh a u f there x y) = absurd (no_answers p s (suc c) n (after (p.turn q) q u) r us none y)
 
 last_means : (db : Db) (p : Rules) (m depth : ℕ) (q : Point) (ask : Ask) → (p.turn q).ask ≡ ask → Outcome db p m depth 1 q (last_answer ask)
-last_means db p m depth q (Asked k) is = (λ r e x. clash_done is (one_answer p (db.at m) e 0 q r x.0 refl x.1), refl)
-last_means db p m depth q (Call sh a) is = (λ r e x. clash_call is (one_answer p (db.at m) e 0 q r x.0 refl x.1), refl)
+last_means db p m depth q (Asked k) is = inr (inr (λ r e x. clash_done is (one_answer p (db.at m) e 0 q r x.0 refl x.1), inr (inl refl)))
+last_means db p m depth q (Call sh a) is = inr (inr (λ r e x. clash_call is (one_answer p (db.at m) e 0 q r x.0 refl x.1), inr (inl refl)))
 last_means db p m depth q (Done r) is = ([], done is)
 
 refused_means : (db : Db) (p : Rules) (m depth n : ℕ) (q : Point) (k : Query) (fault : Fault) → (p.turn q).ask ≡ Asked k → ReadsAt db m k (Err fault) → Outcome db p m depth (suc n) q (Err fault)
 refused_means db p m depth n q k fault is (inl (out, same)) =
-    subst (λ f. Outcome db p m depth (suc n) q (Err f)) (sym same) (λ r e x. no_table p (db.at m) e n q r k x.0 is out x.1, refl)
-refused_means db p m depth n q k fault is (inr (known, unheld, same)) = subst (λ f. Outcome db p m depth (suc n) q (Err f)) (sym same) (unheld, refl)
+    subst (λ f. Outcome db p m depth (suc n) q (Err f)) (sym same) (inr (inr (λ r e x. no_table p (db.at m) e n q r k x.0 is out x.1, inr (inr refl))))
+refused_means db p m depth n q k fault is (inr (known, unheld, same)) = subst (λ f. Outcome db p m depth (suc n) q (Err f)) (sym same) (inl (unheld, refl))
 
 query_means : (db : Db) (p : Rules) (m depth n : ℕ) (q : Point) (k : Query) (v : Reading) (result : Result Reading Fault) → (p.turn q).ask ≡ Asked k → ReadsAt db m k (Ok v)
     → Outcome db p m depth n (after (p.turn q) q v) result → Outcome db p m depth (suc n) q result
 query_means db p m depth n q k v (Ok r) is (known, there, reads) x = (query_tag k ∷ x.0, query k v is known reads x.1)
 query_means db p m depth n q k v (Err fault) is (known, there, reads) f =
-    passed_on _ _ _ _ _ fault
+    passed_on
     (λ none r e y. none r e (after_query p (db.at m) e n q r k v y.0 is reads y.1))
     (λ within r y. within r (after_query p (db.at m) depth n q r k v y.0 is reads y.1)) f
 
 unknown_means : (db : Db) (p : Rules) (m depth n : ℕ) (q : Point) (sh a : ℕ) → (p.turn q).ask ≡ Call sh a → p.sheets ≤ sh → Outcome db p m depth (suc n) q (Err (SheetUnknown 0))
-unknown_means db p m depth n q sh a is out = (λ r e x. let z = no_call p (db.at m) e n q r sh a x.0 is x.1 in let there = z.2.1.0 in omega arith, refl)
+unknown_means db p m depth n q sh a is out = inr (inr (λ r e x. let z = no_call p (db.at m) e n q r sh a x.0 is x.1 in let there = z.2.1.0 in omega arith, inl refl))
 
 deep_means : (db : Db) (p : Rules) (m n : ℕ) (q : Point) (sh a : ℕ) → (p.turn q).ask ≡ Call sh a → Outcome db p m 0 (suc n) q (Err (TooDeep 0))
-deep_means db p m n q sh a is = (λ r x. let z = no_call p (db.at m) 0 n q r sh a x.0 is x.1 in omega (arith, z.1), refl)
+deep_means db p m n q sh a is = inr (inl (λ r x. let z = no_call p (db.at m) 0 n q r sh a x.0 is x.1 in omega (arith, z.1), refl))
 
 failed_means : (db : Db) (p : Rules) (m d n : ℕ) (q : Point) (sh a : ℕ) (fault : Fault) → (p.turn q).ask ≡ Call sh a → Outcome db p m d 32 (start sh a) (Err fault) → Outcome db p m (suc d) (suc n) q (Err fault)
 failed_means db p m d n q sh a fault is f =
-    passed_on _ _ _ _ _ fault
+    passed_on
     (λ none r e x. let z = no_call p (db.at m) e n q r sh a x.0 is x.1 in none z.2.0 z.0 z.2.1.1)
     (λ within r x.
     let z = no_call p (db.at m) (suc d) n q r sh a x.0 is x.1 in
@@ -125,7 +105,7 @@ call_means : (db : Db) (p : Rules) (m d n : ℕ) (q : Point) (sh a : ℕ) (v : R
     → Outcome db p m (suc d) n (after (p.turn q) q v) result → Outcome db p m (suc d) (suc n) q result
 call_means db p m d n q sh a v (Ok r) is there ends x = (ends.0 ++ x.0, call sh a v is there ends.1 x.1)
 call_means db p m d n q sh a v (Err fault) is there ends f =
-    passed_on _ _ _ _ _ fault
+    passed_on
     (λ none r e y. none r e (after_call p (db.at m) e n d q r sh a v y.0 is ends y.1))
     (λ within r y. within r (after_call p (db.at m) (suc d) n d q r sh a v y.0 is ends y.1)) f
 
@@ -144,11 +124,11 @@ works_means db p m depth left q result (works.Works.call {depth = d} {left = n} 
 started_means : (db : Db) (p : Rules) (m sheet argument depth : ℕ) (result : Result Reading Fault) → sheet < p.sheets → Outcome db p m depth 32 (start sheet argument) result → Evaluates db p m sheet argument depth result
 started_means db p m sheet argument depth (Ok r) there x = (there, x)
 started_means db p m sheet argument depth (Err fault) there f =
-    passed_on _ _ _ _ _ fault (λ none r x. none r x.0 x.1.1) (λ within r x. within r x.1) f
+    passed_on (λ none r x. none r x.0 x.1.1) (λ within r x. within r x.1) f
 
 pub evaluates : (db : Db) (p : Rules) (m sheet argument depth : ℕ) (result : Result Reading Fault) → WorksOut db p m sheet argument depth result → Evaluates db p m sheet argument depth result
 evaluates db p m sheet argument depth result (inl (out, same)) =
-    subst (Evaluates db p m sheet argument depth) (sym same) (λ r x. let there = x.1.0 in omega arith, refl)
+    subst (Evaluates db p m sheet argument depth) (sym same) (inr (inr (λ r x. let there = x.1.0 in omega arith, inl refl)))
 evaluates db p m sheet argument depth result (inr (there, x)) = started_means db p m sheet argument depth result there (works_means db p m depth 32 (start sheet argument) result x)
 
 -- where the loop stands after some answers
@@ -163,54 +143,82 @@ begins db p m sheet argument depth h = record { there = h; upto = omega arith; o
 two_left : (used : ℕ) → used < 31 → 32 - used ≡ suc (suc (30 - used))
 two_left used h = omega arith
 
-pub stops : (db : Db) (p : Rules) (m sheet argument depth used : ℕ) (q : Point) (result : Result Reading Fault) → used < 31 → At db p m sheet argument depth used q
+stops : {db : Db} {p : Rules} {m sheet argument depth used : ℕ} {q : Point} {result : Result Reading Fault} → used < 31 → At db p m sheet argument depth used q
     → Works db p m depth (suc (suc (30 - used))) q result → WorksOut db p m sheet argument depth result
-stops db p m sheet argument depth used q result h at x = inr (at.there, at.onward result (subst (λ n. Works db p m depth n q result) (sym (two_left used h)) x))
+stops {db} {p} {m} {depth = depth} {used} {q} {result} h at x = inr (at.there, at.onward result (subst (λ n. Works db p m depth n q result) (sym (two_left used h)) x))
 
-pub goes_on : (db : Db) (p : Rules) (m sheet argument depth used : ℕ) (q : Point) (turn : Turn) (last v : Reading) → used < 31 → turn ≡ p.turn q → last ≡ v → At db p m sheet argument depth used q
-    → ((result : Result Reading Fault) → Works db p m depth (suc (30 - used)) (after (p.turn q) q v) result → Works db p m depth (suc (suc (30 - used))) q result)
+goes_on : (db : Db) (p : Rules) (m sheet argument depth used : ℕ) (q : Point) (turn : Turn) (last : Reading) → used < 31 → turn ≡ p.turn q → At db p m sheet argument depth used q
+    → ((result : Result Reading Fault) → Works db p m depth (suc (30 - used)) (after (p.turn q) q last) result → Works db p m depth (suc (suc (30 - used))) q result)
     → At db p m sheet argument depth (used + 1) (after turn q last)
-goes_on db p m sheet argument depth used q turn last v h e f at one = record {
+goes_on db p m sheet argument depth used q turn last h e at one = record {
   there = at.there;
   upto = omega arith;
   onward = λ result x.
       let same : 32 - (used + 1) ≡ suc (30 - used) = omega arith in
-      let next : after turn q last ≡ after (p.turn q) q v = ap (λ t. after t q last) e ∙ ap (after (p.turn q) q) f in
       let y = subst (λ n. Works db p m depth n (after turn q last) result) same x in
-      at.onward result (subst (λ n. Works db p m depth n q result) (sym (two_left used h)) (one result (subst (λ z. Works db p m depth (suc (30 - used)) z result) next y)));
+      at.onward result (subst (λ n. Works db p m depth n q result) (sym (two_left used h)) (one result (subst (λ t. Works db p m depth (suc (30 - used)) (after t q last) result) e y)));
 }
 
-pub ends_last : (db : Db) (p : Rules) (m sheet argument depth used : ℕ) (q : Point) → 31 ≤ used → At db p m sheet argument depth used q → WorksOut db p m sheet argument depth (last_answer (p.turn q).ask)
-ends_last db p m sheet argument depth used q h at =
-    let upto = at.upto in
-    let same : 1 ≡ 32 - used = omega arith in
-    inr (at.there, at.onward _ (subst (λ n. Works db p m depth n q (last_answer (p.turn q).ask)) same works.Works.last))
-
--- the depth that is left below a call
-below : (depth : ℕ) → (depth ≡ 0 → ⊥) → depth ≡ suc (depth - 1)
-below zero h = absurd (h refl)
-below (suc d) h = omega arith
+-- a turn asks what it is known to ask under another name
+asks : {turn other : Turn} {ask : Ask} → turn ≡ other → turn.ask ≡ ask → other.ask ≡ ask
+asks e f = sym (ap (λ t. t.ask) e) ∙ f
 
 -- a fault that is handed on
-pub handed_on : (result : Result Reading Fault) (fault : Fault) → IsErrAnd result (λ f. f ≡ fault) → result ≡ Err fault
-handed_on (Ok reading) fault none = absurd none
-handed_on (Err f) fault same = ap (λ (x : Fault). Err x) same
+handed_on : (result : Result Reading Fault) {fault : Fault} → IsErrAnd result (λ f. f ≡ fault) → result ≡ Err fault
+handed_on (Ok reading) none = absurd none
+handed_on (Err f) same = ap (λ (x : Fault). Err x) same
 
 -- the sheet that is called, by the depth that is left
-inner_works : (db : Db) (p : Rules) (m sh a depth : ℕ) (result : Result Reading Fault) → sh < p.sheets → WorksOut db p m sh a depth result → Works db p m depth 32 (start sh a) result
-inner_works db p m sh a depth result there (inl (out, same)) = absurd (omega arith)
-inner_works db p m sh a depth result there (inr (known, x)) = x
+inner_works : {db : Db} {p : Rules} {m sh a depth : ℕ} {result : Result Reading Fault} → sh < p.sheets → WorksOut db p m sh a depth result → Works db p m depth 32 (start sh a) result
+inner_works there (inl (out, same)) = absurd (omega arith)
+inner_works there (inr (known, x)) = x
 
-pub called_on : (db : Db) (p : Rules) (m depth n : ℕ) (q : Point) (sh a : ℕ) (v : Reading) (result : Result Reading Fault) → (depth ≡ 0 → ⊥) → (p.turn q).ask ≡ Call sh a → sh < p.sheets
-    → WorksOut db p m sh a (depth - 1) (Ok v) → Works db p m depth (suc n) (after (p.turn q) q v) result → Works db p m depth (suc (suc n)) q result
-called_on db p m depth n q sh a v result some is there inner x =
-    subst (λ d. Works db p m d (suc (suc n)) q result) (sym (below depth some))
-    (works.Works.call sh a v is there (inner_works db p m sh a (depth - 1) (Ok v) there inner) (subst (λ d. Works db p m d (suc n) (after (p.turn q) q v) result) (below depth some) x))
+-- how an answer ends the sheet, or leads to the next one
+pub ends_done : {db : Db} {p : Rules} {m sheet argument depth used : ℕ} {q : Point} {turn : Turn} {r : Reading} → used < 31 → At db p m sheet argument depth used q → turn ≡ p.turn q → turn.ask ≡ Done r
+    → WorksOut db p m sheet argument depth (Ok r)
+ends_done h at e is = stops h at (works.Works.done (asks e is))
 
-pub failed_on : (db : Db) (p : Rules) (m depth n : ℕ) (q : Point) (sh a : ℕ) (fault : Fault) → (depth ≡ 0 → ⊥) → (p.turn q).ask ≡ Call sh a → sh < p.sheets
-    → WorksOut db p m sh a (depth - 1) (Err fault) → Works db p m depth (suc (suc n)) q (Err fault)
-failed_on db p m depth n q sh a fault some is there inner =
-    subst (λ d. Works db p m d (suc (suc n)) q (Err fault)) (sym (below depth some)) (works.Works.failed sh a fault is there (inner_works db p m sh a (depth - 1) (Err fault) there inner))
+pub ends_refused : {db : Db} {p : Rules} {m sheet argument depth used : ℕ} {q : Point} {turn : Turn} {k : Query} {fault : Fault} {result : Result Reading Fault}
+    → used < 31 → At db p m sheet argument depth used q → turn ≡ p.turn q → turn.ask ≡ Asked k → ReadsAt db m k (Err fault) → IsErrAnd result (λ f. f ≡ fault) → WorksOut db p m sheet argument depth result
+ends_refused {db} {p} {m} {sheet} {argument} {depth} {k = k} {fault = fault} {result} h at e is why same =
+    subst (WorksOut db p m sheet argument depth) (sym (handed_on result same)) (stops h at (works.Works.refused k fault (asks e is) why))
 
-pub deep_on : (db : Db) (p : Rules) (m depth n : ℕ) (q : Point) (sh a : ℕ) → depth ≡ 0 → (p.turn q).ask ≡ Call sh a → sh < p.sheets → Works db p m depth (suc (suc n)) q (Err (TooDeep 0))
-deep_on db p m depth n q sh a none is there = subst (λ d. Works db p m d (suc (suc n)) q (Err (TooDeep 0))) (sym none) (works.Works.deep sh a is there)
+pub ends_unknown : {db : Db} {p : Rules} {m sheet argument depth used : ℕ} {q : Point} {turn : Turn} {sh a : ℕ} {fault : Fault} {result : Result Reading Fault}
+    → used < 31 → At db p m sheet argument depth used q → turn ≡ p.turn q → turn.ask ≡ Call sh a → (p.sheets ≤ sh) × (fault ≡ SheetUnknown 0) → IsErrAnd result (λ f. f ≡ fault) → WorksOut db p m sheet argument depth result
+ends_unknown {db} {p} {m} {sheet} {argument} {depth} {sh = sh} {a = a} {result = result} h at e is out same =
+    subst (WorksOut db p m sheet argument depth) (sym (handed_on result same ∙ ap (λ (x : Fault). Err x) out.1)) (stops h at (works.Works.unknown sh a (asks e is) out.0))
+
+pub ends_deep : {db : Db} {p : Rules} {m sheet argument depth used : ℕ} {q : Point} {turn : Turn} {sh a : ℕ} {fault : Fault} {result : Result Reading Fault}
+    → used < 31 → At db p m sheet argument depth used q → turn ≡ p.turn q → turn.ask ≡ Call sh a → sh < p.sheets → (depth ≡ 0) × (fault ≡ TooDeep 0) → IsErrAnd result (λ f. f ≡ fault) → WorksOut db p m sheet argument depth result
+ends_deep {db} {p} {m} {sheet} {argument} {depth} {used} {q} {sh = sh} {a} {result = result} h at e is there none same =
+    subst (WorksOut db p m sheet argument depth) (sym (handed_on result same ∙ ap (λ (x : Fault). Err x) none.1))
+    (stops h at (subst (λ d. Works db p m d (suc (suc (30 - used))) q (Err (TooDeep 0))) (sym none.0) (works.Works.deep sh a (asks e is) there)))
+
+pub ends_failed : {db : Db} {p : Rules} {m sheet argument depth left used : ℕ} {q : Point} {turn : Turn} {sh a : ℕ} {fault : Fault} {result : Result Reading Fault}
+    → used < 31 → At db p m sheet argument depth used q → turn ≡ p.turn q → turn.ask ≡ Call sh a → sh < p.sheets → depth ≡ suc left
+    → WorksOut db p m sh a left (Err fault) → IsErrAnd result (λ f. f ≡ fault) → WorksOut db p m sheet argument depth result
+ends_failed {db} {p} {m} {sheet} {argument} {depth} {used = used} {q} {sh = sh} {a} {fault} {result} h at e is there left inner same =
+    subst (WorksOut db p m sheet argument depth) (sym (handed_on result same))
+    (stops h at (subst (λ d. Works db p m d (suc (suc (30 - used))) q (Err fault)) (sym left) (works.Works.failed sh a fault (asks e is) there (inner_works there inner))))
+
+pub goes_query : {db : Db} {p : Rules} {m sheet argument depth used : ℕ} {q : Point} {turn : Turn} {k : Query} {last v : Reading}
+    → used < 31 → At db p m sheet argument depth used q → turn ≡ p.turn q → turn.ask ≡ Asked k → ReadsAt db m k (Ok v) → last ≡ v → At db p m sheet argument depth (used + 1) (after turn q last)
+goes_query {db} {p} {m} {sheet} {argument} {depth} {used} {q} {turn} {k} {last} h at e is reads same =
+    goes_on db p m sheet argument depth used q turn last h e at (λ result x. works.Works.query k last (asks e is) (subst (λ v. ReadsAt db m k (Ok v)) (sym same) reads) x)
+
+pub goes_call : {db : Db} {p : Rules} {m sheet argument depth left used : ℕ} {q : Point} {turn : Turn} {sh a : ℕ} {last v : Reading}
+    → used < 31 → At db p m sheet argument depth used q → turn ≡ p.turn q → turn.ask ≡ Call sh a → sh < p.sheets → depth ≡ suc left
+    → WorksOut db p m sh a left (Ok v) → last ≡ v → At db p m sheet argument depth (used + 1) (after turn q last)
+goes_call {db} {p} {m} {sheet} {argument} {depth} {left} {used} {q} {turn} {sh} {a} {last} h at e is there less inner same =
+    goes_on db p m sheet argument depth used q turn last h e at
+    (λ result x. subst (λ d. Works db p m d (suc (suc (30 - used))) q result) (sym less)
+    (works.Works.call sh a last (asks e is) there (inner_works there (subst (λ v. WorksOut db p m sh a left (Ok v)) (sym same) inner))
+    (subst (λ d. Works db p m d (suc (30 - used)) (after (p.turn q) q last) result) less x)))
+
+pub ends_last : {db : Db} {p : Rules} {m sheet argument depth used : ℕ} {q : Point} {turn : Turn} {result : Result Reading Fault}
+    → 31 ≤ used → At db p m sheet argument depth used q → turn ≡ p.turn q → result ≡ last_answer turn.ask → WorksOut db p m sheet argument depth result
+ends_last {db} {p} {m} {sheet} {argument} {depth} {used} {q} h at e is =
+    let upto = at.upto in
+    let same : 1 ≡ 32 - used = omega arith in
+    subst (WorksOut db p m sheet argument depth) (sym (is ∙ ap (λ t. last_answer t.ask) e))
+    (inr (at.there, at.onward _ (subst (λ n. Works db p m depth n q (last_answer (p.turn q).ask)) same works.Works.last)))

@@ -1,5 +1,5 @@
 -- The attendant's and the board's recipe, and what their sheets are worth.
-use Rattle.std.specs.Prelude.{◌≡◌, ℕ, false, cond, Some, None, Ok, Err, MatchBool, Option, Result, ◌==◌, nat_le, nat_lt}
+use Rattle.std.specs.Prelude.{◌≡◌, ℕ, true, false, cond, Some, None, Ok, Err, MatchBool, Option, Result, ◌==◌, nat_le, nat_lt}
 use Rattle.terms.specs.declared.record.Value.{Value}
 use Rattle.terms.specs.declared.record.Query.{Query}
 use Rattle.terms.specs.declared.record.Query.TheVariants.{Get, Tally}
@@ -11,7 +11,7 @@ use Rattle.database.specs.States.{Records, Reads, seen}
 use Rattle.recipe.specs.declared.Point.{Point}
 use Rattle.recipe.specs.declared.Turn.{Turn}
 use Rattle.recipe.specs.declared.Ask.TheVariants.{Query as Asked, Call, Done}
-use Rattle.recipe.specs.Recipes.{Rules}
+use Rattle.recipe.specs.Recipes.{Rules, GivesWithin}
 
 -- the record of a table under a key
 abbrev pub get_of : ℕ → ℕ → Query
@@ -100,6 +100,10 @@ pub record CountsOf (records : Records) (reading : Reading) : Type 0 where
   pub reads_free : Reads records (Tally 0 0) free
   pub reads_taken : Reads records (Tally 0 1) taken
   pub both : reading ≡ counts (narrow (count_of free)) taken
+
+-- a sheet has a value within the depth, if the moment is held
+abbrev pub HasValue : Db → Rules → ℕ → ℕ → ℕ → ℕ → Type 0
+HasValue db rules moment sheet argument depth = held db moment ≡ true → (reading : Reading) × GivesWithin rules (db.at moment) depth sheet argument reading
 
 -- the sheet's worth, or 32 where the moment is not held
 abbrev pub Worth : Db → ℕ → (Records → Reading → Type 0) → Result Reading Fault → Type 0

@@ -1,6 +1,7 @@
 // The attendant's recipe: the claim sheet of a ticket.
 ghost use Rattle.std.specs.Prelude.{◌≡◌};
-ghost use Rattle.recipe.specs.Sheets.{attendant, claim_turn, claimed, door_of, finish, narrow};
+ghost use Rattle.recipe.specs.declared.Ask.TheVariants.{Query as Asked};
+ghost use Rattle.recipe.specs.Sheets.{attendant, claim_turn, claimed, door_of, get_of};
 ghost use Rattle.std.proofs.Common.{rules};
 
 use crate::{Ask, Point, Recipe, Turn};
@@ -10,25 +11,13 @@ use terms::{Query, Reading, RecordId};
 #[derive(Clone, Copy)]
 pub struct Attendant;
 
-// The sheet is done.
-pub(crate) fn finished(reading: Reading) -> Turn
-    ensures { result ≡ finish reading }
+// The record of a table under a key is asked for.
+fn get(table: u8, key: u32) -> Ask
+    ensures { result ≡ Asked (get_of table key) }
 {
-    Turn {
-        ask: Ask::Done { reading },
-        stage: 0,
-        carry: 0,
-    }
-}
-
-// The number, where it fits 32 bits.
-pub(crate) fn narrowed(number: u64) -> Option<u32>
-    ensures { result ≡ narrow number }
-{
-    if number < 4_294_967_296 {
-        Some(number as u32)
-    } else {
-        None
+    let id = RecordId { table, key };
+    Ask::Query {
+        query: Query::Get { id },
     }
 }
 
@@ -36,10 +25,8 @@ pub(crate) fn narrowed(number: u64) -> Option<u32>
 fn claim_door(ticket: u32, door: Option<u32>, found: Reading) -> Reading
     ensures { result ≡ claimed ticket door found }
 {
-    match (door, found) {
-        (Some(door), Some((state, word))) if word == ticket => Some((state, door)),
-        _ => None,
-    }
+    let (door, (state, word)) = door.zip(found)?;
+    (word == ticket).then_some((state, door))
 }
 
 // The door in the ticket's word.
@@ -47,19 +34,8 @@ fn door_of(ticket: Reading) -> Turn
     ensures { result ≡ door_of ticket }
 {
     match ticket {
-        Some((_, door)) => Turn {
-            ask: Ask::Query {
-                query: Query::Get {
-                    id: RecordId {
-                        table: 0,
-                        key: door,
-                    },
-                },
-            },
-            stage: 2,
-            carry: u64::from(door),
-        },
-        None => finished(None),
+        Some((_, door)) => get(0, door).then(2, u64::from(door)),
+        None => Turn::done(None),
     }
 }
 
@@ -67,20 +43,12 @@ fn claim_turn(point: Point) -> Turn
     ensures { result ≡ claim_turn point }
 {
     match point.stage {
-        0 => Turn {
-            ask: Ask::Query {
-                query: Query::Get {
-                    id: RecordId {
-                        table: 1,
-                        key: point.argument,
-                    },
-                },
-            },
-            stage: 1,
-            carry: 0,
-        },
+        0 => get(1, point.argument).then(1, 0),
         1 => door_of(point.last),
-        _ => finished(claim_door(point.argument, narrowed(point.carry), point.last)),
+        _ => {
+            let door = u32::try_from(point.carry).ok();
+            Turn::done(claim_door(point.argument, door, point.last))
+        }
     }
 }
 
@@ -97,7 +65,7 @@ impl Recipe for Attendant {
         if point.sheet == 0 {
             claim_turn(point)
         } else {
-            finished(None)
+            Turn::done(None)
         }
     }
 }

@@ -1,9 +1,9 @@
 // The board's recipe: how many doors are free, and how many are taken.
 ghost use Rattle.std.specs.Prelude.{◌≡◌};
+ghost use Rattle.recipe.specs.declared.Ask.TheVariants.{Call};
 ghost use Rattle.recipe.specs.Sheets.{board, count_of, counts, counts_turn, tally_turn};
 ghost use Rattle.std.proofs.Common.{rules};
 
-use crate::attendant::{finished, narrowed};
 use crate::{Ask, Point, Recipe, Turn};
 use terms::{Query, Reading};
 
@@ -15,40 +15,36 @@ pub struct Board;
 fn count_of(reading: Reading) -> u32
     ensures { result ≡ count_of reading }
 {
-    match reading {
-        Some((count, _)) => count,
-        None => 0,
-    }
+    reading.map_or(0, |(count, _)| count)
 }
 
 // Both counts.
 fn both_counts(free: Option<u32>, taken: Reading) -> Reading
     ensures { result ≡ counts free taken }
 {
-    match free {
-        Some(free) => Some((free, count_of(taken))),
-        None => None,
-    }
+    free.map(|free| (free, count_of(taken)))
 }
 
 fn tally_turn(point: Point) -> Turn
     ensures { result ≡ tally_turn point }
 {
     if point.stage != 0 {
-        return finished(point.last);
+        return Turn::done(point.last);
     }
-    if point.argument > 255 {
-        return finished(None);
-    }
-    Turn {
-        ask: Ask::Query {
-            query: Query::Tally {
-                table: 0,
-                state: point.argument as u8,
-            },
-        },
-        stage: 1,
-        carry: 0,
+    let Ok(state) = u8::try_from(point.argument) else {
+        return Turn::done(None);
+    };
+    let query = Query::Tally { table: 0, state };
+    Ask::Query { query }.then(1, 0)
+}
+
+// Sheet 0 is called for the doors in a state.
+fn tally(state: u32) -> Ask
+    ensures { result ≡ Call 0 state }
+{
+    Ask::Call {
+        sheet: 0,
+        argument: state,
     }
 }
 
@@ -56,23 +52,12 @@ fn counts_turn(point: Point) -> Turn
     ensures { result ≡ counts_turn point }
 {
     match point.stage {
-        0 => Turn {
-            ask: Ask::Call {
-                sheet: 0,
-                argument: 0,
-            },
-            stage: 1,
-            carry: 0,
-        },
-        1 => Turn {
-            ask: Ask::Call {
-                sheet: 0,
-                argument: 1,
-            },
-            stage: 2,
-            carry: u64::from(count_of(point.last)),
-        },
-        _ => finished(both_counts(narrowed(point.carry), point.last)),
+        0 => tally(0).then(1, 0),
+        1 => tally(1).then(2, u64::from(count_of(point.last))),
+        _ => {
+            let free = u32::try_from(point.carry).ok();
+            Turn::done(both_counts(free, point.last))
+        }
     }
 }
 
@@ -89,7 +74,7 @@ impl Recipe for Board {
         match point.sheet {
             0 => tally_turn(point),
             1 => counts_turn(point),
-            _ => finished(None),
+            _ => Turn::done(None),
         }
     }
 }

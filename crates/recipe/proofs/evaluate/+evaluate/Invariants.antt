@@ -1,8 +1,0 @@
-use Rattle.recipe.proofs.Stepping.{At}
-use Rattle.recipe.proofs.evaluate.+evaluate.Given as goal
-
-abbrev pub decreases-evaluate : goal.decreases-evaluate
-decreases-evaluate g l = l.depth
-
-abbrev pub invariant-loop-answers : goal.invariant-loop-answers
-invariant-loop-answers g l = At (g.D.Database.view l.db) (g.R.Recipe.rules l.recipe) l.moment l.sheet l.argument l.depth l.answers l.point
