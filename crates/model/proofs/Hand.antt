@@ -3,7 +3,7 @@ use Rattle.std.proofs.Common.{◌≡◌, ℕ, ◌≤◌, true, false, [], ◌∷
 use Rattle.std.proofs.lemmas.Bool.{both_ways}
 use Rattle.terms.specs.declared.interval.Until.TheVariants.{Ended, Open}
 use Rattle.database.proofs.Rows.{keys_in}
-use Rattle.versions.specs.Versions.{rows_at}
+use Rattle.validity.specs.Versions.{rows_at}
 use Rattle.versions.specs.Versions.{state_at}
 use Rattle.cache.specs.declared.entry.Entry.{Entry}
 use Rattle.cache.specs.declared.key.Key.{Key}

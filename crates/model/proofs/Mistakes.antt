@@ -14,7 +14,7 @@ use Rattle.database.proofs.Rows.{keys_in}
 use Rattle.database.specs.States.{Records, KeysIn, in_state}
 use Rattle.database.specs.Writes.{changed}
 use Rattle.database.specs.Databases.{Sound}
-use Rattle.versions.specs.Versions.{rows_at, dated}
+use Rattle.validity.specs.Versions.{rows_at, dated}
 use Rattle.versions.specs.Versions.{state_at}
 use Rattle.versions.specs.Stores.{Store, meaning, pinned as pinnedIn, written, answer_at, Good}
 use Rattle.versions.specs.Soundness.{sound}
