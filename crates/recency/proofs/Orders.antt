@@ -58,9 +58,10 @@ inserts_push n new es few =
           (last_lost e n ks short (among_kept (stays new) e es a (not_from_false (gives_way new e) no)));
     }
 
-pub enters_pushed : (n : ℕ) (new : Option Entry) (es fs : List Entry) → length es ≤ suc n → fs ≡ pushed (suc n) new es → Enters es new fs
-enters_pushed n None es fs few is = is
-enters_pushed n (Some new) es fs few is = subst (Inserts es new) (sym is) (inserts_push n new es few)
+pub enters_pushed : (n : ℕ) (new : Option Entry) (es fs : List Entry) → 1 ≤ n → length es ≤ n → fs ≡ pushed n new es → Enters es new fs
+enters_pushed n None es fs some few is = is
+enters_pushed zero (Some new) es fs some few is = let no : ⊥ = omega arith in absurd no
+enters_pushed (suc n) (Some new) es fs some few is = subst (Inserts es new) (sym is) (inserts_push n new es few)
 
 pub closes_map : (tag : Tag) (n : ℕ) (es fs : List Entry) → fs ≡ map (closed tag n) es → Closes es tag n fs
 closes_map tag n es fs is = subst (Closes es tag n) (sym is) (record {
