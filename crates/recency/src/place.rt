@@ -30,7 +30,7 @@ pub fn better_of(best: Option<Found>, place: usize, newest: Option<Moment>) -> O
     }
 }
 
-// The best of the entries, in one pass.
+// The best of the entries, in one pass. A fold, and no `max` over pairs: that would compare their places too.
 pub fn best(entries: &[Entry], wanted: LookUp<'_>) -> Option<Found>
     ensures { result ≡ fold (λ so_far next. better so_far next.0 (newest_of wanted.entry next.1)) None (enumerate_from 0 entries.now) }
 {
