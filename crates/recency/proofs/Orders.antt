@@ -10,7 +10,8 @@ use Rattle.cache.specs.Lists.{Among, Same}
 use Rattle.cache.specs.Calls.{Inserts, Enters, Closes, Drops}
 use Rattle.cache.specs.Entries.{closed, gives_way, ended_by}
 use Rattle.cache.proofs.Members.{among_append, among_left, among_right, among_map, among_mapped, among_kept, kept_among}
-use Rattle.recency.specs.Nodes.{stays, outlasts, pushed}
+use Rattle.recency.specs.Nodes.{pushed}
+use Rattle.recency.specs.Places.{stays, outlasts}
 
 -- an entry that is brought to the front stays among the entries, with all others
 pub same_raise : (es : List Entry) (place : ℕ) (d : Entry) → place < length es → Same es (get_or es place d ∷ (take place es ++ drop (place + 1) es))

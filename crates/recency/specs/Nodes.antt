@@ -1,8 +1,9 @@
 -- What a recency node holds, by last use, and what its calls do to that order.
-use Rattle.std.specs.Prelude.{◌≡◌, ℕ, ◌+◌, ◌<◌, Bool, not, List, ◌∷◌, ◌++◌, length, take, drop, Some, None, filter, Option, slice_index_or}
+use Rattle.std.specs.Prelude.{◌≡◌, ℕ, ◌+◌, ◌<◌, List, ◌∷◌, ◌++◌, length, take, drop, Some, None, filter, Option, slice_index_or}
 use Rattle.cache.specs.declared.entry.Entry.{Entry}
-use Rattle.cache.specs.Entries.{blank_entry, ended_by, gives_way}
+use Rattle.cache.specs.Entries.{blank_entry}
 use Rattle.recency.specs.declared.node.Recency.{Recency}
+use Rattle.recency.specs.Places.{stays}
 
 -- the places of the lent table
 abbrev pub places : Recency → List Entry
@@ -15,14 +16,6 @@ size_of node = length (places node)
 -- the entries by last use, the newest use first
 abbrev pub recent : Recency → List Entry
 recent node = take node.len (places node)
-
--- an entry does not have to leave when the new one comes in
-abbrev pub stays : Entry → Entry → Bool
-stays new old = not (gives_way new old)
-
--- an entry has not ended at or before the moment
-abbrev pub outlasts : ℕ → Entry → Bool
-outlasts moment entry = not (ended_by moment entry)
 
 -- on a hit the entry comes first, and the others keep their order; a miss changes nothing
 abbrev pub Raises : List Entry → Option Entry → List Entry → Type 0

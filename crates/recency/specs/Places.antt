@@ -1,11 +1,19 @@
--- What walks over entries give.
-use Rattle.std.specs.Prelude.{◌≡◌, ℕ, ◌<◌, Bool, cond, List, length, max, Some, None, filter, Option, nat_lt, slice_index_or}
+-- What walks over entries ask of them, and what they give.
+use Rattle.std.specs.Prelude.{◌≡◌, ℕ, ◌<◌, Bool, cond, not, List, length, max, Some, None, filter, Option, nat_lt, slice_index_or}
 use Rattle.std.specs.List.{reduce}
 use Rattle.cache.specs.declared.call.LookUp.{LookUp}
 use Rattle.cache.specs.declared.entry.Entry.{Entry}
 use Rattle.cache.specs.Calls.{LooksUp}
-use Rattle.cache.specs.Entries.{blank_entry, answers}
+use Rattle.cache.specs.Entries.{blank_entry, answers, ended_by, gives_way}
 use Rattle.recency.specs.declared.place.Found.{Found}
+
+-- an entry does not have to leave when the new one comes in
+abbrev pub stays : Entry → Entry → Bool
+stays new old = not (gives_way new old)
+
+-- an entry has not ended at or before the moment
+abbrev pub outlasts : ℕ → Entry → Bool
+outlasts moment entry = not (ended_by moment entry)
 
 -- a call on an entry answers what the test says
 abbrev pub Computes : (Entry → Bool → Type 0) → (Entry → Bool) → Type 0

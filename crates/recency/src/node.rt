@@ -1,6 +1,6 @@
 // The recency node over a lent table.
-ghost use Rattle.std.specs.Prelude.{◌≡◌, ◌≤◌, length, not};
-ghost use Rattle.cache.specs.Entries.{gives_way, ended_by};
+ghost use Rattle.std.specs.Prelude.{◌≡◌, ◌≤◌, length};
+ghost use Rattle.recency.specs.Places.{stays, outlasts};
 
 use crate::place::best;
 use cache::{Cache, Entry, LookUp, Offer};
@@ -20,14 +20,14 @@ pub struct Recency<'a> {
 
 // Whether the old entry need not leave when the new one comes in.
 fn stays_with(new: Entry, old: Entry) -> bool
-    ensures { result ≡ not (gives_way new old) }
+    ensures { result ≡ stays new old }
 {
     !old.gives_way(new)
 }
 
 // Whether the entry has not ended at or before the moment.
 fn is_lasting(entry: Entry, moment: Moment) -> bool
-    ensures { result ≡ not (ended_by moment entry) }
+    ensures { result ≡ outlasts moment entry }
 {
     !entry.is_ended_by(moment)
 }
@@ -38,8 +38,8 @@ impl<'a> Recency<'a> {
     ghost use Rattle.cache.specs.Entries.{blank_entry, closed};
     ghost use Rattle.std.specs.Fn.{FnReturnsAt};
     ghost use Rattle.cache.specs.declared.entry.Entry.{Entry};
-    ghost use Rattle.recency.specs.Places.{Computes, Finds};
-    ghost use Rattle.recency.specs.Nodes.{size_of, recent, stays};
+    ghost use Rattle.recency.specs.Places.{Computes, Finds, stays};
+    ghost use Rattle.recency.specs.Nodes.{size_of, recent};
 
     // A node without entries, as large as the table; refused if that is not 1 to 1,024 places.
     pub fn new(table: &'a mut [Entry]) -> Result<Recency<'a>, Fault>
@@ -125,7 +125,8 @@ impl Cache for Recency<'_> {
     ghost use Rattle.cache.specs.Lists.{Same};
     ghost use Rattle.cache.specs.Entries.{offered, closed};
     ghost use Rattle.cache.specs.Calls.{LooksUp, Only, Enters, Closes, Drops, Sound};
-    ghost use Rattle.recency.specs.Nodes.{size_of, recent, outlasts, Raises, pushed};
+    ghost use Rattle.recency.specs.Nodes.{size_of, recent, Raises, pushed};
+    ghost use Rattle.recency.specs.Places.{outlasts};
 
     // By last use, the newest use first.
     ghost entries = { λ s. recent s };

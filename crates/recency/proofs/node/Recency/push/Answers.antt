@@ -1,5 +1,5 @@
 use Rattle.std.proofs.Common.{rules, refl, ◌∙◌, arith}
-use Rattle.recency.specs.Nodes.{stays}
+use Rattle.recency.specs.Places.{stays}
 use Rattle.recency.proofs.Shifts.{put_first}
 use Rattle.recency.proofs.node.Recency.push.Goals as goal
 

@@ -1,5 +1,5 @@
 use Rattle.cache.proofs.Sounds.{sound_drops}
-use Rattle.recency.specs.Nodes.{outlasts}
+use Rattle.recency.specs.Places.{outlasts}
 use Rattle.recency.proofs.Orders.{drops_kept}
 use Rattle.recency.proofs.node.RecencyCache.drop_ended.Goals as goal
 use Rattle.std.proofs.Common.{rules}
