@@ -1,10 +1,9 @@
 -- Membership in lists.
-use Rattle.std.proofs.Common.{◌≡◌, ℕ, zero, suc, ◌+◌, ◌<◌, Bool, true, ◌&&◌, ◌⊎◌, List, [], ◌∷◌, ◌++◌, map, length, get_or, take, Some, None, filter, Option, sym, refl, ap, ◌∙◌, subst, inl, inr, ⊎_elim, arith}
-use Rattle.std.proofs.lemmas.Bool.{cond_both, and_parts, and_cases, ltb-true, ltb-false, both_ways}
-use Rattle.std.proofs.lemmas.List.{take_more}
+use Rattle.std.proofs.Common.{◌≡◌, ℕ, zero, suc, ◌<◌, ◌≤◌, max, Bool, true, ◌⊎◌, List, [], ◌∷◌, ◌++◌, map, length, get_or, filter, Option, sym, refl, ap, ◌∙◌, subst, inl, inr, ⊎_elim, arith}
+use Rattle.std.proofs.lemmas.Bool.{cond_both, both_ways, cases_lt}
+use Rattle.std.specs.List.{fold, reduce}
 use Rattle.cache.specs.Lists.{Among}
 use Rattle.cache.specs.Calls.{Newest}
-use Rattle.cache.specs.Entries.{later, newer}
 
 pub among_left : {X : Type 0} (x : X) (xs ys : List X) → Among x xs → Among x (xs ++ ys)
 among_left x [] ys h = absurd h
@@ -18,9 +17,6 @@ pub among_append : {X : Type 0} (x : X) (xs ys : List X) → Among x (xs ++ ys) 
 among_append x [] ys h = inr h
 among_append x (y ∷ xs) ys h =
     ⊎_elim (λ e. inl (inl e)) (λ t. ⊎_elim (λ l. inl (inr l)) (λ r. inr r) (among_append x xs ys t)) h
-
-pub among_last : {X : Type 0} (x : X) (xs : List X) → Among x (xs ++ x ∷ [])
-among_last x xs = among_right x xs (x ∷ []) (inl refl)
 
 pub among_push : {X : Type 0} (y : X) (xs : List X) (x : X) → Among y (xs ++ x ∷ []) → Among y xs ⊎ (y ≡ x)
 among_push y xs x h = ⊎_elim (λ l. inl l) (λ r. inr (⊎_elim (λ e. e) (λ none. absurd none) r)) (among_append y xs (x ∷ []) h)
@@ -53,24 +49,24 @@ kept_among p x (y ∷ xs) h =
     (λ t. ⊎_elim (λ e. (inl e, ap p e ∙ t)) (λ r. let k = kept_among p x xs r in (inr k.0, k.1)))
     (λ f r. let k = kept_among p x xs r in (inr k.0, k.1)) h
 
--- the newest moment so far, and one more
-pub newest_push : (test : ℕ → Bool) (xs : List ℕ) (best : Option ℕ) (x : ℕ) → Newest test xs best → Newest test (xs ++ x ∷ []) (newer test best x)
-newest_push test xs None x h =
-    cond_both (test x && true) (Some x) None (λ r. Newest test (xs ++ x ∷ []) r)
-    (λ e. (among_last x xs, (and_parts (test x) true e).0, λ m a t. ⊎_elim (λ l. absurd (h m l t)) (λ is. omega arith) (among_push m xs x a)))
-    (λ e m a t. ⊎_elim (λ l. h m l t) (λ is. ⊎_elim (λ no. both_ways (test x) no (ap test (sym is) ∙ t)) (λ no. both_ways true no refl) (and_cases (test x) true e)) (among_push m xs x a))
-newest_push test xs (Some b) x h =
-    cond_both (test x && later (Some b) x) (Some x) (Some b) (λ r. Newest test (xs ++ x ∷ []) r)
-    (λ e. let won = and_parts (test x) (later (Some b) x) e in
-    (among_last x xs, won.0, λ m a t. ⊎_elim (λ l. let below = ltb-true b x won.1 in let le = h.2 m l t in omega arith) (λ is. omega arith) (among_push m xs x a)))
-    (λ e. (
-      among_left b xs (x ∷ []) h.0,
-      h.1,
-      λ m a t.
-          ⊎_elim (λ l. h.2 m l t)
-          (λ is. ⊎_elim (λ no. absurd (both_ways (test x) no (ap test (sym is) ∙ t))) (λ no. let le = ltb-false b x no in omega arith) (and_cases (test x) (later (Some b) x) e))
-          (among_push m xs x a),
-    ))
+-- the greatest of some numbers is one of them, and above the others
+greatest_among : (x : ℕ) (xs : List ℕ) → Among (fold max x xs) (x ∷ xs)
+greatest_among x [] = inl refl
+greatest_among x (y ∷ xs) =
+    ⊎_elim (λ e. ⊎_elim (λ l. inr (inl (omega arith))) (λ r. inl (omega arith)) (cases_lt x y)) (λ t. inr (inr t)) (greatest_among (max x y) xs)
 
-pub newest_more : (test : ℕ → Bool) (ms : List ℕ) (i : ℕ) (best : Option ℕ) → i < length ms → Newest test (take i ms) best → Newest test (take (i + 1) ms) (newer test best (get_or ms i 0))
-newest_more test ms i best h so = subst (λ l. Newest test l (newer test best (get_or ms i 0))) (sym (take_more ms i 0 h)) (newest_push test (take i ms) best (get_or ms i 0) so)
+greatest_above : (x : ℕ) (xs : List ℕ) (m : ℕ) → Among m (x ∷ xs) → m ≤ fold max x xs
+greatest_above x [] m a = ⊎_elim (λ e. omega arith) (λ none. absurd none) a
+greatest_above x (y ∷ xs) m a =
+    let here : max x y ≤ fold max (max x y) xs = greatest_above (max x y) xs (max x y) (inl refl) in
+    ⊎_elim (λ e. omega arith) (λ t. ⊎_elim (λ e. omega arith) (λ r. greatest_above (max x y) xs m (inr r)) t) a
+
+newest_of : (test : ℕ → Bool) (ms ks : List ℕ) → ks ≡ filter test ms → Newest test ms (reduce max ks)
+newest_of test ms [] is = λ m a t. subst (Among m) (sym is) (among_kept test m ms a t)
+newest_of test ms (k ∷ ks) is =
+    let kept = kept_among test (fold max k ks) ms (subst (Among (fold max k ks)) is (greatest_among k ks)) in
+    (kept.0, kept.1, λ m a t. greatest_above k ks m (subst (Among m) (sym is) (among_kept test m ms a t)))
+
+-- the newest moment that passes is the greatest of those that pass
+pub newest_greatest : (test : ℕ → Bool) (ms : List ℕ) (r : Option ℕ) → r ≡ reduce max (filter test ms) → Newest test ms r
+newest_greatest test ms r is = subst (Newest test ms) (sym is) (newest_of test ms (filter test ms) refl)

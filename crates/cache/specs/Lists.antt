@@ -1,5 +1,5 @@
--- Lists as sets, and tests over them.
-use Rattle.std.specs.Prelude.{◌≡◌, Bool, false, ◌||◌, ◌⊎◌, List, [], ◌∷◌}
+-- Lists as sets.
+use Rattle.std.specs.Prelude.{◌≡◌, ◌⊎◌, List, [], ◌∷◌}
 
 -- x is in the list
 abbrev pub Among : {X : Type 0} → X → List X → Type 0
@@ -10,8 +10,3 @@ Among x (y ∷ ys) = (x ≡ y) ⊎ Among x ys
 pub record Same {X : Type 0} (xs ys : List X) : Type 0 where
   pub there : (x : X) → Among x xs → Among x ys
   pub back : (x : X) → Among x ys → Among x xs
-
--- some element passes the test
-abbrev pub some : {X : Type 0} → (X → Bool) → List X → Bool
-some test [] = false
-some test (x ∷ xs) = test x || some test xs

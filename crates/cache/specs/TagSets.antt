@@ -1,13 +1,13 @@
 -- Sets of at most 8 different tags.
-use Rattle.std.specs.Prelude.{ℕ, ◌-◌, min, Bool, true, false, cond, not, ◌&&◌, List, [], ◌∷◌, ◌++◌, length, take, replicate, Some, None, Option, ◌==◌, nat_le, nat_lt}
+use Rattle.std.specs.Prelude.{ℕ, Bool, true, false, cond, not, ◌&&◌, List, [], ◌∷◌, ◌++◌, length, Some, None, Option, ◌==◌, nat_le, nat_lt}
+use Rattle.std.specs.List.{list_any}
 use Rattle.terms.specs.declared.tag.Tag.{Tag}
 use Rattle.terms.specs.Tags.{touches}
 use Rattle.cache.specs.declared.tag_set.TagSet.{TagSet}
-use Rattle.cache.specs.Lists.{some}
 
--- the tags of a set stand in its first places
+-- a set is seen as the list of its tags
 abbrev pub tags_of : TagSet → List Tag
-tags_of set = take (min set.count 8) set.tags
+tags_of set = set
 
 -- what stands in the places that are not used
 abbrev pub no_tag : Tag
@@ -26,11 +26,11 @@ is_tag one other = one.table == other.table && same_keys one.key other.key
 
 -- the tag is in the list
 abbrev pub has_tag : Tag → List Tag → Bool
-has_tag tag list = some (is_tag tag) list
+has_tag tag list = list_any (is_tag tag) list
 
 -- some tag of the list touches the tag
 abbrev pub touched : Tag → List Tag → Bool
-touched tag list = some (touches tag) list
+touched tag list = list_any (touches tag) list
 
 -- no tag of the second list repeats one that stands before it, in either
 abbrev pub new_to : List Tag → List Tag → Bool
@@ -43,11 +43,11 @@ few_tags list = nat_le (length list) 8 && new_to [] list
 
 -- the set of these tags, in their order
 abbrev pub packed : List Tag → TagSet
-packed list = record { tags = list ++ replicate (8 - length list) no_tag; count = length list }
+packed list = list
 
 -- the set of these tags, if they are at most 8 and none repeats
 abbrev pub set_of : List Tag → Option TagSet
-set_of list = cond (few_tags list) (Some (packed list)) None
+set_of list = cond (few_tags list) (Some list) None
 
 -- the tags with one more: the same tags if it is there already, and none if it is not there and 8 others are
 abbrev pub with_tag : List Tag → Tag → Option (List Tag)

@@ -2,12 +2,12 @@
 ghost use Rattle.std.specs.Prelude.{◌≡◌, List, []};
 ghost use Rattle.cache.specs.declared.entry.Entry.{Entry};
 ghost use Rattle.cache.specs.Lists.{Same};
-ghost use Rattle.cache.specs.Entries.{accepted};
-ghost use Rattle.cache.specs.Calls.{Looks, Only, Enters, Closes, Drops, Sound};
+ghost use Rattle.cache.specs.Entries.{offered};
+ghost use Rattle.cache.specs.Calls.{LooksUp, Only, Enters, Closes, Drops, Sound};
 
+use crate::call::{LookUp, Offer};
 use crate::entry::Entry;
-use crate::key::Key;
-use terms::{Interval, Moment, Reading, Tag};
+use terms::{Moment, Tag};
 
 // A cache is a set of entries. Two entries of one key never share a moment (`Sound`), and each call keeps that.
 pub trait Cache {
@@ -17,17 +17,17 @@ pub trait Cache {
     // The entry that covers the newest listed moment that any entry of the key covers, or a miss.
     // Where the entries are sound there is only one such answer.
     // An open entry covers up to `delivered`, the last moment whose changes have been closed.
-    fn look_up(&mut self, key: Key, moments: &[Moment], delivered: Moment) -> Option<Entry>
-        ensures answer { Looks (entries self.old) key moments.now delivered result }
-        ensures only { Sound (entries self.old) → Only (Looks (entries self.old) key moments.now delivered) result }
+    fn look_up(&mut self, wanted: LookUp<'_>) -> Option<Entry>
+        ensures answer { LooksUp (entries self.old) wanted.entry result }
+        ensures only { Sound (entries self.old) → Only (LooksUp (entries self.old) wanted.entry) result }
         ensures same { Same (entries self.old) (entries self.new) }
         ensures sound { Sound (entries self.old) → Sound (entries self.new) };
 
     // Adds an entry, for which those of its key that share a moment with it leave, and perhaps one more.
     // Nothing changes if the interval has no moment, the sheet is 255, a tag repeats or there are over 8.
     // A first number above the highest moment is no moment, and an end above the number after it is no end.
-    fn insert(&mut self, key: Key, reading: Reading, interval: Interval, tags: &[Tag])
-        ensures entered { Enters (entries self.old) (accepted key reading interval tags.now) (entries self.new) }
+    fn insert(&mut self, offer: Offer<'_>)
+        ensures entered { Enters (entries self.old) (offered offer.entry) (entries self.new) }
         ensures sound { Sound (entries self.old) → Sound (entries self.new) };
 
     // Every open entry with a touching tag and a first moment below `moment` gets the end `moment`.

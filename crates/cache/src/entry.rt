@@ -1,7 +1,6 @@
 // Entries of a cache: what one covers, which give way to a new one, and what a close makes of one.
 ghost use Rattle.std.specs.Prelude.{◌≡◌};
-ghost use Rattle.cache.specs.Entries.{is_end, covers, answers, newer, inside, share_moment, gives_way, has_moment, accepted, closed, ended_by, blank_entry};
-ghost use Rattle.cache.specs.Calls.{Newest};
+ghost use Rattle.cache.specs.Entries.{is_end, covers, answers, inside, share_moment, gives_way, has_moment, closed, ended_by, blank_entry};
 
 use crate::key::Key;
 use crate::tag_set::TagSet;
@@ -9,7 +8,7 @@ use terms::moment::is_moment;
 use terms::{HIGHEST, Interval, Moment, Reading, Tag, Until};
 
 // The value of a sheet with its argument, the moments for which it is right, and the tags that it rests on.
-#[derive(Clone, Copy)]
+#[derive(Clone, Copy, PartialEq, Eq)]
 pub struct Entry {
     pub key: Key,
     pub reading: Reading,
@@ -24,7 +23,7 @@ fn is_end(number: u64) -> bool
     number <= HIGHEST + 1
 }
 
-fn has_moment(interval: Interval) -> bool
+pub(crate) fn has_moment(interval: Interval) -> bool
     ensures { result ≡ has_moment interval }
 {
     let ends_past = match interval.until {
@@ -63,29 +62,8 @@ impl Entry {
                 argument: 0,
             },
             reading: None,
-            interval: Interval {
-                first: 0,
-                until: Until::Ended { end: 0 },
-            },
+            interval: Interval::ended(0, 0),
             tags: TagSet::empty(),
-        }
-    }
-
-    // The entry that an insert of these adds, if it is accepted.
-    pub fn accepted(key: Key, reading: Reading, interval: Interval, tags: &[Tag]) -> Option<Entry>
-        ensures { result ≡ accepted key reading interval tags.now }
-    {
-        if key.sheet == 255 || !has_moment(interval) {
-            return None;
-        }
-        match TagSet::from_slice(tags) {
-            Some(tags) => Some(Entry {
-                key,
-                reading,
-                interval,
-                tags,
-            }),
-            None => None,
         }
     }
 
@@ -104,65 +82,24 @@ impl Entry {
     pub fn answers(self, key: Key, moment: Moment, delivered: Moment) -> bool
         ensures { result ≡ answers key delivered self moment }
     {
-        key.is(self.key) && self.covers(moment, delivered)
-    }
-
-    // The newest moment so far that the entry answers, with one more moment.
-    fn newer(
-        self,
-        key: Key,
-        newest: Option<Moment>,
-        moment: Moment,
-        delivered: Moment,
-    ) -> Option<Moment>
-        ensures { result ≡ newer (answers key delivered self) newest moment }
-    {
-        let is_later = match newest {
-            Some(newest) => newest < moment,
-            None => true,
-        };
-        if self.answers(key, moment, delivered) && is_later {
-            Some(moment)
-        } else {
-            newest
-        }
-    }
-
-    // The newest of the moments that the entry answers.
-    pub fn newest(self, key: Key, moments: &[Moment], delivered: Moment) -> Option<Moment>
-        ensures { Newest (answers key delivered self) moments.now result }
-    {
-        if !key.is(self.key) {
-            return None;
-        }
-        let mut newest = None;
-        for i in 0..moments.len() {
-            newest = self.newer(key, newest, moments[i], delivered);
-        }
-        newest
+        key == self.key && self.covers(moment, delivered)
     }
 
     // Whether the entry has to leave when the new one comes in.
     pub fn gives_way(self, new: Entry) -> bool
         ensures { result ≡ gives_way new self }
     {
-        new.key.is(self.key) && share_moment(new.interval, self.interval)
+        new.key == self.key && share_moment(new.interval, self.interval)
     }
 
     // What a close makes of the entry.
     pub fn closed(self, tag: Tag, moment: u64) -> Entry
         ensures { result ≡ closed tag moment self }
     {
-        let is_open = match self.interval.until {
-            Until::Ended { .. } => false,
-            Until::Open { .. } => true,
-        };
+        let is_open = matches!(self.interval.until, Until::Open { .. });
         if is_end(moment) && is_open && self.interval.first < moment && self.tags.touches(tag) {
             Entry {
-                interval: Interval {
-                    until: Until::Ended { end: moment },
-                    ..self.interval
-                },
+                interval: Interval::ended(self.interval.first, moment),
                 ..self
             }
         } else {

@@ -2,11 +2,13 @@
 #![tactic(auto)]
 
 pub mod cache;
+pub mod call;
 pub mod entry;
 pub mod key;
 pub mod tag_set;
 
 pub use cache::Cache;
+pub use call::{LookUp, Offer};
 pub use entry::Entry;
 pub use key::Key;
 pub use tag_set::TagSet;

@@ -1,46 +1,50 @@
 // Sets of at most 8 different tags.
-ghost use Rattle.std.specs.Prelude.{◌≡◌, [], length, nat_le};
-ghost use Rattle.std.specs.Option.{option_map};
-ghost use Rattle.terms.specs.Tags.{touches};
-ghost use Rattle.cache.specs.TagSets.{tags_of, packed, is_tag, has_tag, touched, set_of, with_tag};
+ghost use Rattle.std.specs.Prelude.{◌≡◌, ◌≤◌, [], ◌∷◌, ◌++◌, cond, length, nat_lt};
+ghost use Rattle.cache.specs.TagSets.{has_tag, touched, set_of, with_tag};
 
+use std::marker::Model;
 use terms::Tag;
 
-// The tags stand in the first `count` places.
-#[derive(Clone, Copy)]
+const NO_TAG: Tag = Tag {
+    table: 0,
+    key: None,
+};
+
+// The tags stand in the first `count` places, and no tag in the others.
+// An array with its count, and no Vec: an entry is Copy and lies in a lent table, so nothing of it is on the heap.
+#[derive(Clone, Copy, PartialEq, Eq)]
 pub struct TagSet {
     tags: [Tag; 8],
     count: usize,
 }
 
-// Whether the two are one tag: a star equals a star alone.
-fn is_tag(one: Tag, other: Tag) -> bool
-    ensures { result ≡ is_tag one other }
-{
-    let keys = match (one.key, other.key) {
-        (Some(key), Some(another)) => key == another,
-        (None, None) => true,
-        _ => false,
-    };
-    one.table == other.table && keys
-}
+// A set is seen as the list of its tags, in the order in which they came.
+impl Model for TagSet {
+    ghost use Rattle.std.specs.Prelude.{◌≡◌, ◌-◌, ◌≤◌, ◌++◌, List, length, take, drop, replicate};
+    ghost use Rattle.terms.specs.declared.tag.Tag.{Tag};
 
-// Whether a change that bears the tag reaches what rests on the other.
-fn reaches(tag: Tag, other: Tag) -> bool
-    ensures { result ≡ touches tag other }
-{
-    tag.touches(other)
+    ghost Value = { List Tag };
+
+    ghost use Rattle.cache.specs.TagSets.{no_tag};
+
+    ghost view = { λ s. take s.count s.tags };
+
+    ghost invariant = { λ s. (length s.tags ≡ 8) × (s.count ≤ 8) × (drop s.count s.tags ≡ replicate (8 - s.count) no_tag) };
+
+    ghost inverse = { λ list. record { tags = list ++ replicate (8 - length list) no_tag; count = length list } };
+
+    ghost use Rattle.std.proofs.Common.{arith, length-take};
+    ghost use Rattle.std.proofs.lemmas.List.{take-append-drop, length-take-le};
+
+    ghost inverse_ok = { λ a h. Prim.grind (arith, take-append-drop, length-take-le, length-take) };
 }
 
 impl TagSet {
     pub fn empty() -> TagSet
-        ensures { result ≡ packed [] }
+        ensures { result ≡ [] }
     {
         TagSet {
-            tags: [Tag {
-                table: 0,
-                key: None,
-            }; 8],
+            tags: [NO_TAG; 8],
             count: 0,
         }
     }
@@ -49,77 +53,65 @@ impl TagSet {
     pub fn from_slice(tags: &[Tag]) -> Option<TagSet>
         ensures { result ≡ set_of tags.now }
     {
-        if tags.len() > 8 {
-            return None;
-        }
         let mut set = TagSet::empty();
-        for i in 0..tags.len() {
-            let tag = tags[i];
-            if set.contains(tag) {
+        for tag in tags {
+            if set.contains(*tag) {
                 return None;
             }
-            set.tags[i] = tag;
-            set.count = i + 1;
+            set = set.pushed(*tag)?;
         }
         Some(set)
     }
 
     pub fn len(self) -> usize
-        ensures { result ≡ length (tags_of self) }
+        ensures value { result ≡ length self }
+        ensures few { result ≤ 8 }
     {
-        self.tags.len().min(self.count)
-    }
-
-    fn is_full(self) -> bool
-        ensures { result ≡ nat_le 8 (length (tags_of self)) }
-    {
-        self.len() >= 8
+        self.as_slice().len()
     }
 
     // The tags, in the order in which they came.
     pub fn as_slice(&self) -> &[Tag]
-        ensures { result.now ≡ tags_of self.now }
+        ensures value { result.now ≡ self.now }
+        ensures few { length result.now ≤ 8 }
     {
-        &self.tags[0..self.count.min(8)]
+        &self.tags[..self.count]
     }
 
+    // A star equals a star alone.
     pub fn contains(self, tag: Tag) -> bool
-        ensures { result ≡ has_tag tag (tags_of self) }
+        ensures { result ≡ has_tag tag self }
     {
-        for i in 0..self.len() {
-            if is_tag(tag, self.tags[i]) {
-                return true;
-            }
-        }
-        false
+        self.as_slice().contains(&tag)
     }
 
     // Whether a tag of the set touches the tag.
     pub fn touches(self, tag: Tag) -> bool
-        ensures { result ≡ touched tag (tags_of self) }
+        ensures { result ≡ touched tag self }
     {
-        for i in 0..self.len() {
-            if reaches(tag, self.tags[i]) {
-                return true;
-            }
-        }
-        false
+        self.as_slice().iter().any(|other| tag.touches(*other))
     }
 
     // The set with the tag in it; none if the tag is not there and 8 others are.
     pub fn with(self, tag: Tag) -> Option<TagSet>
-        ensures { option_map tags_of result ≡ with_tag (tags_of self) tag }
+        ensures { result ≡ with_tag self tag }
     {
         if self.contains(tag) {
-            return Some(self);
+            Some(self)
+        } else {
+            self.pushed(tag)
         }
-        if self.is_full() {
+    }
+
+    // The tags with one more behind them; none if there are 8.
+    fn pushed(mut self, tag: Tag) -> Option<TagSet>
+        ensures { result ≡ cond (nat_lt (length self) 8) (Some (self ++ tag ∷ [])) None }
+    {
+        if self.count >= 8 {
             return None;
         }
-        let count = self.len();
-        let mut set = self;
-        set.tags[count] = tag;
-        set.count = count + 1;
-        Some(set)
+        self.tags[self.count] = tag;
+        self.count += 1;
+        Some(self)
     }
 }

@@ -1,4 +1,3 @@
 pub mod Searches
 pub mod Shifts
 pub mod Orders
-pub mod Closings

@@ -10,7 +10,8 @@ use Rattle.cache.specs.Lists.{Among, Same}
 use Rattle.cache.specs.Calls.{Inserts, Enters, Closes, Drops}
 use Rattle.cache.specs.Entries.{closed, gives_way, ended_by}
 use Rattle.cache.proofs.Members.{among_append, among_left, among_right, among_map, among_mapped, among_kept, kept_among}
-use Rattle.recency.specs.Nodes.{stays, outlasts, pushed}
+use Rattle.recency.specs.Nodes.{pushed}
+use Rattle.recency.specs.Places.{stays, outlasts}
 
 -- an entry that is brought to the front stays among the entries, with all others
 pub same_raise : (es : List Entry) (place : ℕ) (d : Entry) → place < length es → Same es (get_or es place d ∷ (take place es ++ drop (place + 1) es))
@@ -58,9 +59,10 @@ inserts_push n new es few =
           (last_lost e n ks short (among_kept (stays new) e es a (not_from_false (gives_way new e) no)));
     }
 
-pub enters_pushed : (n : ℕ) (new : Option Entry) (es fs : List Entry) → length es ≤ suc n → fs ≡ pushed (suc n) new es → Enters es new fs
-enters_pushed n None es fs few is = is
-enters_pushed n (Some new) es fs few is = subst (Inserts es new) (sym is) (inserts_push n new es few)
+pub enters_pushed : (n : ℕ) (new : Option Entry) (es fs : List Entry) → 1 ≤ n → length es ≤ n → fs ≡ pushed n new es → Enters es new fs
+enters_pushed n None es fs some few is = is
+enters_pushed zero (Some new) es fs some few is = let no : ⊥ = omega arith in absurd no
+enters_pushed (suc n) (Some new) es fs some few is = subst (Inserts es new) (sym is) (inserts_push n new es few)
 
 pub closes_map : (tag : Tag) (n : ℕ) (es fs : List Entry) → fs ≡ map (closed tag n) es → Closes es tag n fs
 closes_map tag n es fs is = subst (Closes es tag n) (sym is) (record {

@@ -1,15 +1,13 @@
 -- What a recency node holds, by last use, and what its calls do to that order.
-use Rattle.std.specs.Prelude.{◌≡◌, ℕ, ◌+◌, ◌<◌, Bool, cond, not, List, ◌∷◌, ◌++◌, length, take, drop, Some, None, filter, Option, nat_lt, slice_index_or}
+use Rattle.std.specs.Prelude.{◌≡◌, ℕ, ◌+◌, ◌<◌, List, ◌∷◌, ◌++◌, length, take, drop, Some, None, filter, Option, slice_index_or}
 use Rattle.cache.specs.declared.entry.Entry.{Entry}
-use Rattle.cache.specs.declared.key.Key.{Key}
-use Rattle.cache.specs.Calls.{Looks}
-use Rattle.cache.specs.Entries.{blank_entry, ended_by, gives_way}
+use Rattle.cache.specs.Entries.{blank_entry}
 use Rattle.recency.specs.declared.node.Recency.{Recency}
-use Rattle.recency.specs.declared.place.Found.{Found}
+use Rattle.recency.specs.Places.{stays}
 
 -- the places of the lent table
 abbrev pub places : Recency → List Entry
-places node = node.first.now ∷ node.rest.now
+places node = node.table.now
 
 -- how many entries the node can keep
 abbrev pub size_of : Recency → ℕ
@@ -18,14 +16,6 @@ size_of node = length (places node)
 -- the entries by last use, the newest use first
 abbrev pub recent : Recency → List Entry
 recent node = take node.len (places node)
-
--- an entry does not have to leave when the new one comes in
-abbrev pub stays : Entry → Entry → Bool
-stays new old = not (gives_way new old)
-
--- an entry has not ended at or before the moment
-abbrev pub outlasts : ℕ → Entry → Bool
-outlasts moment entry = not (ended_by moment entry)
 
 -- on a hit the entry comes first, and the others keep their order; a miss changes nothing
 abbrev pub Raises : List Entry → Option Entry → List Entry → Type 0
@@ -41,15 +31,3 @@ Raises before (Some hit) after =
 abbrev pub pushed : ℕ → Option Entry → List Entry → List Entry
 pushed size None before = before
 pushed size (Some new) before = take size (new ∷ filter (stays new) before)
-
--- the best place so far, with one more place and the newest moment that its entry answers
-abbrev pub better : Option Found → ℕ → Option ℕ → Option Found
-better best place None = best
-better None place (Some moment) = Some (record { place = place; moment = moment })
-better (Some best) place (Some moment) = cond (nat_lt best.moment moment) (Some (record { place = place; moment = moment })) (Some best)
-
--- where a look-up finds its answer
-abbrev pub Finds : List Entry → Key → List ℕ → ℕ → Option ℕ → Type 0
-Finds entries key moments delivered None = Looks entries key moments delivered None
-Finds entries key moments delivered (Some place) =
-    (place < length entries) × Looks entries key moments delivered (Some (slice_index_or entries place blank_entry))

@@ -1,7 +1,9 @@
 // Places that are found in a walk over the entries.
-ghost use Rattle.std.specs.Prelude.{◌≡◌};
-ghost use Rattle.recency.specs.Nodes.{better};
+ghost use Rattle.std.specs.Prelude.{◌≡◌, None};
+ghost use Rattle.std.specs.List.{fold, enumerate_from};
+ghost use Rattle.recency.specs.Places.{newest_of, better};
 
+use cache::{Entry, LookUp};
 use terms::Moment;
 
 // A place, and the newest listed moment that its entry covers.
@@ -26,4 +28,16 @@ pub fn better_of(best: Option<Found>, place: usize, newest: Option<Moment>) -> O
             }
         }
     }
+}
+
+// The best of the entries, in one pass. A fold, and no `max` over pairs: that would compare their places too.
+pub fn best(entries: &[Entry], wanted: LookUp<'_>) -> Option<Found>
+    ensures { result ≡ fold (λ so_far next. better so_far next.0 (newest_of wanted.entry next.1)) None (enumerate_from 0 entries.now) }
+{
+    entries
+        .iter()
+        .enumerate()
+        .fold(None, |so_far, (place, entry)| {
+            better_of(so_far, place, wanted.newest(*entry))
+        })
 }

@@ -1,25 +1,29 @@
 // Runs of a node on examples.
 use crate::node::Recency;
-use cache::{Cache, Entry, Key};
+use cache::{Cache, Entry, Key, LookUp, Offer};
 use std::test::Fail;
-use terms::{HIGHEST, Interval, Moment, Tag, Until};
+use terms::{HIGHEST, Interval, Moment, Tag};
 
 const KEY: Key = Key {
     sheet: 0,
     argument: 900,
 };
 
-fn ended(first: Moment, end: u64) -> Interval {
-    Interval {
-        first,
-        until: Until::Ended { end },
+// An offer of a number under the key.
+fn offer(number: u32, interval: Interval, tags: &[Tag]) -> Offer<'_> {
+    Offer {
+        key: KEY,
+        reading: Some((number, 0)),
+        interval,
+        tags,
     }
 }
 
-fn open_from(first: Moment) -> Interval {
-    Interval {
-        first,
-        until: Until::Open { through: first },
+fn ask(moments: &[Moment], delivered: Moment) -> LookUp<'_> {
+    LookUp {
+        key: KEY,
+        moments,
+        delivered,
     }
 }
 
@@ -32,13 +36,9 @@ fn tag(key: u32) -> Tag {
 
 // The number that was put in, or 0 for a miss.
 fn number(found: Option<Entry>) -> u32 {
-    match found {
-        Some(entry) => match entry.reading {
-            Some((number, _)) => number,
-            None => 0,
-        },
-        None => 0,
-    }
+    found
+        .and_then(|entry| entry.reading)
+        .map_or(0, |(number, _)| number)
 }
 
 // Whether an insert into an empty node is found again at the moment.
@@ -48,8 +48,18 @@ fn keeps(sheet: u8, interval: Interval, tags: &[Tag], moment: Moment) -> bool {
         return false;
     };
     let key = Key { sheet, argument: 5 };
-    node.insert(key, Some((7, 7)), interval, tags);
-    number(node.look_up(key, &[moment], HIGHEST)) == 7
+    node.insert(Offer {
+        key,
+        reading: Some((7, 7)),
+        interval,
+        tags,
+    });
+    let found = node.look_up(LookUp {
+        key,
+        moments: &[moment],
+        delivered: HIGHEST,
+    });
+    number(found) == 7
 }
 
 #[test]
@@ -58,8 +68,8 @@ fn looks_up(rt: HostRuntime) -> Result<(), Fail> {
     let Ok(mut node) = Recency::new(&mut table) else {
         return Err(Fail::new("a size that was refused"));
     };
-    node.insert(KEY, Some((1, 0)), ended(11, 12), &[]);
-    node.insert(KEY, Some((2, 0)), open_from(13), &[tag(5)]);
+    node.insert(offer(1, Interval::ended(11, 12), &[]));
+    node.insert(offer(2, Interval::open(13, 13), &[tag(5)]));
     // two moments, the last delivered, and the number that is found
     let looks = [
         (11, 13, 12, 1),
@@ -69,7 +79,7 @@ fn looks_up(rt: HostRuntime) -> Result<(), Fail> {
         (10, 12, 13, 0),
     ];
     for (one, other, delivered, wanted) in looks {
-        assert_eq!(rt; number(node.look_up(KEY, &[one, other], delivered)), wanted);
+        assert_eq!(rt; number(node.look_up(ask(&[one, other], delivered))), wanted);
     }
     node.close(
         Tag {
@@ -78,9 +88,9 @@ fn looks_up(rt: HostRuntime) -> Result<(), Fail> {
         },
         14,
     );
-    assert_eq!(rt; number(node.look_up(KEY, &[14], 14)), 0);
+    assert_eq!(rt; number(node.look_up(ask(&[14], 14))), 0);
     node.drop_ended(12);
-    assert_eq!(rt; number(node.look_up(KEY, &[11, 13], 14)), 2);
+    assert_eq!(rt; number(node.look_up(ask(&[11, 13], 14))), 2);
     Ok(())
 }
 
@@ -99,15 +109,21 @@ fn inserts(rt: HostRuntime) {
     ];
     // sheet, interval, how many tags, a moment, and whether the entry is found there
     let rows = [
-        (0, open_from(3), 0, 3, true),
-        (254, open_from(3), 8, 3, true),
-        (0, open_from(3), 9, 3, false),
-        (255, open_from(3), 0, 3, false),
-        (0, ended(3, 3), 0, 3, false),
-        (0, open_from(HIGHEST), 0, HIGHEST, true),
-        (0, ended(HIGHEST, HIGHEST + 1), 0, HIGHEST, true),
-        (0, open_from(HIGHEST + 1), 0, HIGHEST, false),
-        (0, ended(0, HIGHEST + 2), 0, 0, false),
+        (0, Interval::open(3, 3), 0, 3, true),
+        (254, Interval::open(3, 3), 8, 3, true),
+        (0, Interval::open(3, 3), 9, 3, false),
+        (255, Interval::open(3, 3), 0, 3, false),
+        (0, Interval::ended(3, 3), 0, 3, false),
+        (0, Interval::open(HIGHEST, HIGHEST), 0, HIGHEST, true),
+        (0, Interval::ended(HIGHEST, HIGHEST + 1), 0, HIGHEST, true),
+        (
+            0,
+            Interval::open(HIGHEST + 1, HIGHEST + 1),
+            0,
+            HIGHEST,
+            false,
+        ),
+        (0, Interval::ended(0, HIGHEST + 2), 0, 0, false),
     ];
     for (sheet, interval, count, moment, wanted) in rows {
         let some: usize = count;
@@ -116,7 +132,7 @@ fn inserts(rt: HostRuntime) {
             wanted
         );
     }
-    assert!(rt; !keeps(0, open_from(3), &[tag(1), tag(2), tag(1)], 3));
+    assert!(rt; !keeps(0, Interval::open(3, 3), &[tag(1), tag(2), tag(1)], 3));
 }
 
 #[test]
@@ -127,10 +143,10 @@ fn throws_out(rt: HostRuntime) -> Result<(), Fail> {
     };
     // the third throws the first out; the fourth takes the place of the third
     for (number, first, end) in [(1, 1, 2), (2, 2, 3), (3, 3, 4), (4, 3, 5)] {
-        node.insert(KEY, Some((number, 0)), ended(first, end), &[]);
+        node.insert(offer(number, Interval::ended(first, end), &[]));
     }
-    assert_eq!(rt; number(node.look_up(KEY, &[1, 2], 9)), 2);
-    node.insert(KEY, Some((5, 0)), ended(7, 8), &[]);
-    assert_eq!(rt; number(node.look_up(KEY, &[2, 3], 9)), 2);
+    assert_eq!(rt; number(node.look_up(ask(&[1, 2], 9))), 2);
+    node.insert(offer(5, Interval::ended(7, 8), &[]));
+    assert_eq!(rt; number(node.look_up(ask(&[2, 3], 9))), 2);
     Ok(())
 }

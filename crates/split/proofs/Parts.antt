@@ -4,15 +4,16 @@ use Rattle.std.proofs.lemmas.Bool.{and_parts, both_ways, cases_Bool, cond_both, 
 use Rattle.terms.specs.declared.interval.Interval.{Interval}
 use Rattle.terms.specs.declared.tag.Tag.{Tag}
 use Rattle.terms.specs.Records.{Reading}
+use Rattle.cache.specs.declared.call.Offer.{Offer}
+use Rattle.cache.specs.declared.call.LookUp.{LookUp}
 use Rattle.cache.specs.declared.entry.Entry.{Entry}
 use Rattle.cache.specs.declared.key.Key.{Key}
 use Rattle.cache.specs.Keys.{is_key}
 use Rattle.cache.specs.Lists.{Among, Same}
-use Rattle.cache.specs.TagSets.{packed}
-use Rattle.cache.specs.Entries.{accepts, accepted, answers, covers, gives_way, share_moment, closed}
-use Rattle.cache.specs.Calls.{Looks, Inserts, Enters, Closes, Drops}
+use Rattle.cache.specs.Entries.{accepts, accepted, offered, answers, covers, gives_way, share_moment, closed}
+use Rattle.cache.specs.Calls.{Looks, LooksUp, Inserts, Enters, Closes, Drops, Sound}
 use Rattle.cache.proofs.Members.{among_append, among_left, among_right, among_kept, kept_among}
-use Rattle.cache.proofs.Sounds.{closed_key}
+use Rattle.cache.proofs.Sounds.{closed_key, sound_closes, sound_drops, sound_enters}
 use Rattle.split.specs.Halves.{goes_first, goes_second, halves}
 
 -- equal keys go to the same cache
@@ -108,7 +109,7 @@ module _ {side : Key → Bool} {gs vs hs ws : List Entry} (part : Part side gs v
 
   pub part_enters : (key : Key) (reading : Reading) (interval : Interval) (tags : List Tag) → side key ≡ true → (hs ≡ gs → ws ≡ vs) → Enters gs (accepted key reading interval tags) hs → Enters vs (accepted key reading interval tags) ws
   part_enters key reading interval tags on unchanged =
-      cond_both (accepts key interval tags) (Some (record { key = key; reading = reading; interval = interval; tags = packed tags })) None
+      cond_both (accepts key interval tags) (Some (record { key = key; reading = reading; interval = interval; tags = tags })) None
       (λ (new : Option Entry). Enters gs new hs → Enters vs new ws)
       (λ _ ins. part_inserts _ on ins)
       (λ _ is. unchanged is)
@@ -141,3 +142,29 @@ halves_drops es fs es' fs' moment a b = record {
       (λ r. let w = b.only e r.0 in (in_second es fs e w.0 r.1, w.1))
       (either_half es' fs' e h);
 }
+
+pub sound_halves_closed : (es fs es' fs' : List Entry) (tag : Tag) (n : ℕ) → Closes es tag n es' → Closes fs tag n fs' → Sound (halves es fs) → Sound (halves es' fs')
+sound_halves_closed es fs es' fs' tag n a b = sound_closes (halves_closes es fs es' fs' tag n a b)
+
+pub sound_halves_dropped : (es fs es' fs' : List Entry) (moment : ℕ) → Drops es moment es' → Drops fs moment fs' → Sound (halves es fs) → Sound (halves es' fs')
+sound_halves_dropped es fs es' fs' moment a b = sound_drops (halves_drops es fs es' fs' moment a b)
+
+module _ (es fs gs : List Entry) (offer : Offer) where
+  pub first_enters : true ≡ goes_first offer.key → Enters es (offered offer) gs → Enters (halves es fs) (offered offer) (halves gs fs)
+  first_enters on ins = part_enters (part_first es fs gs) offer.key offer.reading offer.interval offer.tags.now (sym on) (λ is. ap (λ l. halves l fs) is) ins
+
+  pub second_enters : false ≡ goes_first offer.key → Enters fs (offered offer) gs → Enters (halves es fs) (offered offer) (halves es gs)
+  second_enters off ins = part_enters (part_second es fs gs) offer.key offer.reading offer.interval offer.tags.now (ap not (sym off)) (λ is. ap (halves es) is) ins
+
+  pub sound_first_enters : true ≡ goes_first offer.key → Enters es (offered offer) gs → Sound (halves es fs) → Sound (halves gs fs)
+  sound_first_enters on ins = sound_enters _ _ offer.key offer.reading offer.interval offer.tags.now (first_enters on ins)
+
+  pub sound_second_enters : false ≡ goes_first offer.key → Enters fs (offered offer) gs → Sound (halves es fs) → Sound (halves es gs)
+  sound_second_enters off ins = sound_enters _ _ offer.key offer.reading offer.interval offer.tags.now (second_enters off ins)
+
+module _ (es fs : List Entry) (wanted : LookUp) (r : Option Entry) where
+  pub first_looks : true ≡ goes_first wanted.key → LooksUp es wanted r → LooksUp (halves es fs) wanted r
+  first_looks on h = part_looks (part_first es fs es) wanted.key wanted.moments.now wanted.delivered r (sym on) h
+
+  pub second_looks : false ≡ goes_first wanted.key → LooksUp fs wanted r → LooksUp (halves es fs) wanted r
+  second_looks off h = part_looks (part_second es fs fs) wanted.key wanted.moments.now wanted.delivered r (ap not (sym off)) h

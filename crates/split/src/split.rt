@@ -1,10 +1,9 @@
 // A cache over any two, each of which keeps the entries of some of the keys.
 ghost use Rattle.std.specs.Prelude.{◌≡◌, []};
-ghost use Rattle.cache.specs.Calls.{Closes, Drops};
 ghost use Rattle.split.specs.Halves.{goes_first, halves};
 
-use cache::{Cache, Entry, Key};
-use terms::{Interval, Moment, Reading, Tag};
+use cache::{Cache, Entry, Key, LookUp, Offer};
+use terms::{Moment, Tag};
 
 // What either cache holds of the other's keys does not count.
 #[derive(Drop)]
@@ -18,22 +17,6 @@ fn is_first(key: Key) -> bool
     ensures { result ≡ goes_first key }
 {
     (u64::from(key.sheet) + u64::from(key.argument)) % 2 == 0
-}
-
-fn close_both<A: Cache, B: Cache>(first: &mut A, second: &mut B, tag: Tag, moment: u64)
-    ensures first { Closes (A.Cache.entries first.old) tag moment (A.Cache.entries first.new) }
-    ensures second { Closes (B.Cache.entries second.old) tag moment (B.Cache.entries second.new) }
-{
-    first.close(tag, moment);
-    second.close(tag, moment);
-}
-
-fn drop_both<A: Cache, B: Cache>(first: &mut A, second: &mut B, moment: Moment)
-    ensures first { Drops (A.Cache.entries first.old) moment (A.Cache.entries first.new) }
-    ensures second { Drops (B.Cache.entries second.old) moment (B.Cache.entries second.new) }
-{
-    first.drop_ended(moment);
-    second.drop_ended(moment);
 }
 
 impl<A: Cache, B: Cache> Split<A, B> {
@@ -54,28 +37,33 @@ impl<A: Cache, B: Cache> Cache for Split<A, B> {
     // The entries of each cache whose keys go there.
     ghost entries = { λ s. halves (A.Cache.entries s.first) (B.Cache.entries s.second) };
 
-    fn look_up(&mut self, key: Key, moments: &[Moment], delivered: Moment) -> Option<Entry> {
-        if is_first(key) {
-            self.first.look_up(key, moments, delivered)
+    fn look_up(&mut self, wanted: LookUp<'_>) -> Option<Entry> {
+        if is_first(wanted.key) {
+            self.first.look_up(wanted)
         } else {
-            self.second.look_up(key, moments, delivered)
+            self.second.look_up(wanted)
         }
     }
 
-    fn insert(&mut self, key: Key, reading: Reading, interval: Interval, tags: &[Tag]) {
-        if is_first(key) {
-            self.first.insert(key, reading, interval, tags);
+    #[tactic(auto, using(crate::proofs::Parts::first_enters, crate::proofs::Parts::second_enters, crate::proofs::Parts::sound_first_enters, crate::proofs::Parts::sound_second_enters))]
+    fn insert(&mut self, offer: Offer<'_>) {
+        if is_first(offer.key) {
+            self.first.insert(offer);
         } else {
-            self.second.insert(key, reading, interval, tags);
+            self.second.insert(offer);
         }
     }
 
+    #[tactic(auto, using(crate::proofs::Parts::halves_closes, crate::proofs::Parts::sound_halves_closed))]
     fn close(&mut self, tag: Tag, moment: u64) {
-        close_both(&mut self.first, &mut self.second, tag, moment);
+        self.first.close(tag, moment);
+        self.second.close(tag, moment);
     }
 
+    #[tactic(auto, using(crate::proofs::Parts::halves_drops, crate::proofs::Parts::sound_halves_dropped))]
     fn drop_ended(&mut self, moment: Moment) {
-        drop_both(&mut self.first, &mut self.second, moment);
+        self.first.drop_ended(moment);
+        self.second.drop_ended(moment);
     }
 
     fn clear(&mut self) {

@@ -1,41 +1,24 @@
-use Rattle.std.proofs.Common.{◌≡◌, ◌+◌, ◌∷◌, ◌++◌, get_or, take, drop, Some, None, sym, refl, ap, ◌∙◌, subst}
+use Rattle.std.proofs.Common.{◌+◌, ◌∷◌, ◌++◌, take, drop, Some, sym, ap, ◌∙◌, subst}
 use Rattle.cache.specs.declared.entry.Entry.{Entry}
 use Rattle.cache.specs.Lists.{Same}
-use Rattle.cache.specs.Calls.{Looks}
+use Rattle.cache.specs.Calls.{LooksUp}
 use Rattle.cache.specs.Entries.{blank_entry}
 use Rattle.cache.proofs.Sounds.{sound_same, looks_only}
 use Rattle.recency.specs.Nodes.{recent}
 use Rattle.recency.proofs.Orders.{same_raise}
 use Rattle.recency.proofs.node.RecencyCache.look_up.Goals as goal
 
-pub returns-in-Some : goal.returns-in-Some
-returns-in-Some c =
-    let es = recent c.args.self.now in
-    let place = c.in-Some.place in
-    let found = c.in-Some.ensures in
-    let moved : recent c.raise.new.self ≡ get_or es place blank_entry ∷ (take place es ++ drop (place + 1) es) =
-    c.raise.ensures.order ∙ ap (λ (x : Entry). x ∷ (take place es ++ drop (place + 1) es)) c.raise.ensures.hit in
-    let same : Same es (recent c.raise.new.self) = subst (Same es) (sym moved) (same_raise es place blank_entry found.0) in
-    let answer : Looks es c.args.key c.args.moments.now c.args.delivered (Some c.raise.result) =
-    subst (λ (x : Entry). Looks es c.args.key c.args.moments.now c.args.delivered (Some x)) (sym c.raise.ensures.hit) found.1 in
-    record {
-      answer = answer;
-      only = looks_only es c.args.key c.args.moments.now c.args.delivered (Some c.raise.result) answer;
-      same = same;
-      sound = sound_same same;
-      order = (place, found.0, c.raise.ensures.hit, c.raise.ensures.order);
-      size = c.raise.ensures.size;
-    }
+pub returns-clause-only : goal.returns-clause-only
+returns-clause-only c =
+    looks_only _ c.args.wanted.key c.args.wanted.moments.now c.args.wanted.delivered _
+    (subst (λ (x : Entry). LooksUp (recent c.args.self.now) c.args.wanted (Some x)) (sym c.raise.ensures.hit) c.in_ok-place.ensures.1)
 
-pub returns-in-None : goal.returns-in-None
-returns-in-None c =
+pub returns-clause-same : goal.returns-clause-same
+returns-clause-same c =
     let es = recent c.args.self.now in
-    let miss = c.in-None.ensures in
-    record {
-      answer = miss;
-      only = looks_only es c.args.key c.args.moments.now c.args.delivered None miss;
-      same = record { there = λ _ a. a; back = λ _ a. a };
-      sound = λ sound. sound;
-      order = refl;
-      size = refl;
-    }
+    let place = c.in_ok-place.place in
+    subst (Same es) (sym (c.raise.ensures.order ∙ ap (λ (x : Entry). x ∷ (take place es ++ drop (place + 1) es)) c.raise.ensures.hit))
+    (same_raise es place blank_entry c.in_ok-place.ensures.0)
+
+pub returns-clause-sound : goal.returns-clause-sound
+returns-clause-sound c = sound_same (returns-clause-same c)
