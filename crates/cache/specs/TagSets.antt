@@ -1,13 +1,9 @@
--- Sets of at most 8 different tags.
+-- Sets of at most 8 different tags, each seen as the list of its tags.
 use Rattle.std.specs.Prelude.{ℕ, Bool, true, false, cond, not, ◌&&◌, List, [], ◌∷◌, ◌++◌, length, Some, None, Option, ◌==◌, nat_le, nat_lt}
 use Rattle.std.specs.List.{list_any}
 use Rattle.terms.specs.declared.tag.Tag.{Tag}
 use Rattle.terms.specs.Tags.{touches}
 use Rattle.cache.specs.declared.tag_set.TagSet.{TagSet}
-
--- a set is seen as the list of its tags
-abbrev pub tags_of : TagSet → List Tag
-tags_of set = set
 
 -- what stands in the places that are not used
 abbrev pub no_tag : Tag
@@ -40,10 +36,6 @@ new_to seen (tag ∷ rest) = not (has_tag tag seen) && new_to (seen ++ tag ∷ [
 -- at most 8 tags, and none repeats
 abbrev pub few_tags : List Tag → Bool
 few_tags list = nat_le (length list) 8 && new_to [] list
-
--- the set of these tags, in their order
-abbrev pub packed : List Tag → TagSet
-packed list = list
 
 -- the set of these tags, if they are at most 8 and none repeats
 abbrev pub set_of : List Tag → Option TagSet
