@@ -1,11 +1,10 @@
 // What a cache keeps of a day.
 ghost use Rattle.std.specs.Prelude.{◌≡◌};
-ghost use Rattle.terms.specs.declared.interval.Until.TheVariants.{Ended, Open};
 
 use crate::shown::Shown;
-use cache::{Cache, Key};
+use cache::{Cache, Key, LookUp, Offer};
 use std::io;
-use terms::{Interval, Moment, Reading, Tag, Until};
+use terms::{Interval, Moment, Reading, Tag};
 
 // The board's counts, the claim of ticket 900, and that of a ticket that is not there.
 const COUNTS: Key = Key {
@@ -23,24 +22,6 @@ const LOST: Key = Key {
     argument: 901,
 };
 
-fn ended(first: Moment, end: u64) -> Interval
-    ensures { result ≡ record { first = first; until = Ended end } }
-{
-    Interval {
-        first,
-        until: Until::Ended { end },
-    }
-}
-
-fn open_from(first: Moment, through: Moment) -> Interval
-    ensures { result ≡ record { first = first; until = Open through } }
-{
-    Interval {
-        first,
-        until: Until::Open { through },
-    }
-}
-
 // The tag of one key, or of all keys of a table.
 fn tag(table: u8, key: Option<u32>) -> Tag
     ensures { result ≡ record { table = table; key = key } }
@@ -48,6 +29,7 @@ fn tag(table: u8, key: Option<u32>) -> Tag
     Tag { table, key }
 }
 
+// What an offer is made of stands in one line of the call.
 fn tell_insert<C: Cache>(
     rt: &impl Print,
     cache: &mut C,
@@ -56,7 +38,12 @@ fn tell_insert<C: Cache>(
     interval: Interval,
     tags: &[Tag],
 ) -> io::Result<()> {
-    cache.insert(key, reading, interval, tags);
+    cache.insert(Offer {
+        key,
+        reading,
+        interval,
+        tags,
+    });
     print!(rt;
         "in: {} is {}, {}",
         Shown(key),
@@ -69,6 +56,7 @@ fn tell_insert<C: Cache>(
     println!(rt; "")
 }
 
+// What a look-up is given stands in one line of the call.
 fn tell_look_up<C: Cache>(
     rt: &impl Print,
     cache: &mut C,
@@ -76,7 +64,11 @@ fn tell_look_up<C: Cache>(
     moments: &[Moment],
     delivered: Moment,
 ) -> io::Result<()> {
-    let found = cache.look_up(key, moments, delivered);
+    let found = cache.look_up(LookUp {
+        key,
+        moments,
+        delivered,
+    });
     println!(rt;
         "{} at {moments:?}, T = {delivered}: {}",
         Shown(key),
@@ -91,22 +83,29 @@ fn tell_close<C: Cache>(rt: &impl Print, cache: &mut C, tag: Tag, moment: u64) -
 
 // An open entry counts up to the last delivered moment, and the newest listed moment decides.
 fn tell_look_ups<C: Cache>(rt: &impl Print, cache: &mut C) -> io::Result<()> {
-    tell_insert(rt, cache, COUNTS, Some((1, 0)), ended(11, 12), &[])?;
     tell_insert(
         rt,
         cache,
         COUNTS,
         Some((1, 0)),
-        open_from(13, 13),
+        Interval::ended(11, 12),
+        &[],
+    )?;
+    tell_insert(
+        rt,
+        cache,
+        COUNTS,
+        Some((1, 0)),
+        Interval::open(13, 13),
         &[tag(0, None)],
     )?;
-    tell_insert(rt, cache, CLAIM, Some((1, 5)), ended(12, 13), &[])?;
+    tell_insert(rt, cache, CLAIM, Some((1, 5)), Interval::ended(12, 13), &[])?;
     tell_insert(
         rt,
         cache,
         LOST,
         None,
-        open_from(0, 13),
+        Interval::open(0, 13),
         &[tag(1, Some(901))],
     )?;
     tell_look_up(rt, cache, COUNTS, &[11, 13], 12)?;
@@ -134,7 +133,14 @@ fn tell_leaving<C: Cache>(rt: &impl Print, cache: &mut C) -> io::Result<()> {
     tell_look_up(rt, cache, COUNTS, &[11], 15)?;
     tell_look_up(rt, cache, CLAIM, &[12], 15)?;
     tell_look_up(rt, cache, COUNTS, &[13], 15)?;
-    tell_insert(rt, cache, COUNTS, Some((0, 1)), ended(12, 20), &[])?;
+    tell_insert(
+        rt,
+        cache,
+        COUNTS,
+        Some((0, 1)),
+        Interval::ended(12, 20),
+        &[],
+    )?;
     tell_look_up(rt, cache, COUNTS, &[13], 15)?;
     cache.clear();
     println!(rt; "cleared")?;
@@ -160,11 +166,39 @@ fn claim(ticket: u32) -> Key
 // The claim sheets of four tickets, the first of which is looked up in between.
 // Where there is no room, the entry that was used longest ago is thrown out.
 pub fn tell_full<C: Cache>(rt: &impl Print, cache: &mut C) -> io::Result<()> {
-    tell_insert(rt, cache, claim(2), Some((1, 12)), open_from(13, 13), &[])?;
-    tell_insert(rt, cache, claim(4), Some((1, 14)), open_from(13, 13), &[])?;
+    tell_insert(
+        rt,
+        cache,
+        claim(2),
+        Some((1, 12)),
+        Interval::open(13, 13),
+        &[],
+    )?;
+    tell_insert(
+        rt,
+        cache,
+        claim(4),
+        Some((1, 14)),
+        Interval::open(13, 13),
+        &[],
+    )?;
     tell_look_up(rt, cache, claim(2), &[13], 13)?;
-    tell_insert(rt, cache, claim(5), Some((1, 15)), open_from(13, 13), &[])?;
-    tell_insert(rt, cache, claim(6), Some((1, 16)), open_from(13, 13), &[])?;
+    tell_insert(
+        rt,
+        cache,
+        claim(5),
+        Some((1, 15)),
+        Interval::open(13, 13),
+        &[],
+    )?;
+    tell_insert(
+        rt,
+        cache,
+        claim(6),
+        Some((1, 16)),
+        Interval::open(13, 13),
+        &[],
+    )?;
     for ticket in [2, 4, 5, 6] {
         tell_look_up(rt, cache, claim(ticket), &[13], 13)?;
     }

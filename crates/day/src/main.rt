@@ -14,7 +14,7 @@ use recency::Recency;
 use refusals::{tell_end, tell_making, tell_refusals};
 use split::Split;
 use std::io;
-use terms::{Fault, HIGHEST, RecordId};
+use terms::{Fault, HIGHEST};
 use undo::UndoStore;
 use versions::VersionStore;
 
@@ -34,15 +34,6 @@ impl From<io::Error> for Trouble {
 impl From<Fault> for Trouble {
     fn from(_: Fault) -> Trouble {
         Trouble::Unmade
-    }
-}
-
-// What stands in a journal before it is used.
-fn no_entry() -> undo::Entry {
-    undo::Entry {
-        commit: 0,
-        id: RecordId { table: 0, key: 0 },
-        former: None,
     }
 }
 
@@ -66,9 +57,9 @@ fn tell_versions(rt: &HostRuntime) -> Result<(), Trouble> {
 
 fn tell_undo(rt: &HostRuntime) -> Result<(), Trouble> {
     let heap = rt.alloc();
-    let mut journal = [no_entry(); 6];
-    let mut short = [no_entry(); 1];
-    let mut again = [no_entry(); 6];
+    let mut journal = [undo::Entry::default(); 6];
+    let mut short = [undo::Entry::default(); 1];
+    let mut again = [undo::Entry::default(); 6];
     let mut store = UndoStore::new(heap, &mut journal, 10)?;
     let mut last = UndoStore::new(heap, &mut short, HIGHEST)?;
     println!(rt; "")?;
@@ -87,7 +78,7 @@ fn tell_undo(rt: &HostRuntime) -> Result<(), Trouble> {
 
 fn tell_stores(rt: &HostRuntime) -> Result<(), Trouble> {
     let heap = rt.alloc();
-    let mut journal = [no_entry(); 6];
+    let mut journal = [undo::Entry::default(); 6];
     let mut one = VersionStore::new(heap, 6, 10)?;
     let mut other = UndoStore::new(heap, &mut journal, 10)?;
     println!(rt; "")?;

@@ -5,7 +5,7 @@ ghost use Rattle.terms.specs.Records.{one_tag, shown, change_id, change_value, c
 use crate::tag::Tag;
 
 // The name of a record: its table, 0 to 7, and its key. A table from outside may be any byte.
-#[derive(Clone, Copy, PartialEq, Eq)]
+#[derive(Clone, Copy, PartialEq, Eq, Default)]
 pub struct RecordId {
     pub table: u8,
     pub key: u32,

@@ -21,11 +21,7 @@ impl Recipe for Stubborn {
     }
 
     fn next(&self, _: Point) -> Turn {
-        Turn {
-            ask: self.ask,
-            stage: 0,
-            carry: 0,
-        }
+        self.ask.then(0, 0)
     }
 }
 
@@ -46,21 +42,10 @@ impl Recipe for Patient {
 
     fn next(&self, point: Point) -> Turn {
         if point.stage < self.times {
-            Turn {
-                ask: Ask::Query {
-                    query: Query::Tally { table: 0, state: 0 },
-                },
-                stage: point.stage + 1,
-                carry: 0,
-            }
+            let query = Query::Tally { table: 0, state: 0 };
+            Ask::Query { query }.then(point.stage + 1, 0)
         } else {
-            Turn {
-                ask: Ask::Done {
-                    reading: point.last,
-                },
-                stage: 0,
-                carry: 0,
-            }
+            Turn::done(point.last)
         }
     }
 }

@@ -5,32 +5,23 @@ use crate::stores::{refuses, refuses_at_the_end, refuses_pins, tallies, tells_in
 use database::Database;
 use database::agree::agree;
 use std::test::Fail;
-use terms::{HIGHEST, Moment, RecordId};
+use terms::{HIGHEST, Moment};
 use undo::{Entry, UndoStore};
 use versions::VersionStore;
-
-const BLANK: Entry = Entry {
-    commit: 0,
-    id: RecordId { table: 0, key: 0 },
-    former: None,
-};
 
 fn made<'a>(
     rt: &HostRuntime,
     journal: &'a mut [Entry],
     first: Moment,
 ) -> Result<UndoStore<'a>, Fail> {
-    match UndoStore::new(rt.alloc(), journal, first) {
-        Ok(store) => Ok(store),
-        Err(_) => Err(Fail::new("a store that was refused")),
-    }
+    UndoStore::new(rt.alloc(), journal, first).map_err(|_| Fail::new("a store that was refused"))
 }
 
 #[test]
 fn undo_sizes(rt: HostRuntime) {
-    let mut none = [BLANK; 0];
-    let mut one = [BLANK; 1];
-    let mut many = [BLANK; 4097];
+    let mut none = [Entry::default(); 0];
+    let mut one = [Entry::default(); 1];
+    let mut many = [Entry::default(); 4097];
     assert_eq!(rt;
         fault_of(UndoStore::new(rt.alloc(), &mut none, 10)),
         (61, 0)
@@ -47,9 +38,9 @@ fn undo_sizes(rt: HostRuntime) {
 
 #[test]
 fn undo_faults(rt: HostRuntime) -> Result<(), Fail> {
-    let mut six = [BLANK; 6];
-    let mut last = [BLANK; 1];
-    let mut one = [BLANK; 1];
+    let mut six = [Entry::default(); 6];
+    let mut last = [Entry::default(); 1];
+    let mut one = [Entry::default(); 1];
     refuses(&rt, &mut made(&rt, &mut six, 10)?);
     refuses_at_the_end(&rt, &mut made(&rt, &mut last, HIGHEST)?);
     refuses_pins(&rt, &mut made(&rt, &mut one, 10)?);
@@ -58,8 +49,8 @@ fn undo_faults(rt: HostRuntime) -> Result<(), Fail> {
 
 #[test]
 fn undo_intervals(rt: HostRuntime) -> Result<(), Fail> {
-    let mut six = [BLANK; 6];
-    let mut more = [BLANK; 6];
+    let mut six = [Entry::default(); 6];
+    let mut more = [Entry::default(); 6];
     tells_intervals(&rt, &mut made(&rt, &mut six, 10)?);
     let mut store = made(&rt, &mut more, 10)?;
     tallies(&rt, &mut store);
@@ -74,7 +65,7 @@ fn undo_intervals(rt: HostRuntime) -> Result<(), Fail> {
 // An entry is needed while its commit is above the lowest held moment; an unpin between others frees none.
 #[test]
 fn entries_that_are_let_go(rt: HostRuntime) -> Result<(), Fail> {
-    let mut six = [BLANK; 6];
+    let mut six = [Entry::default(); 6];
     let mut store = made(&rt, &mut six, 10)?;
     spend_day(&rt, &mut store);
     assert_eq!(rt; store.free(), 1, "five of six entries are needed");
@@ -100,11 +91,11 @@ fn entries_that_are_let_go(rt: HostRuntime) -> Result<(), Fail> {
 
 #[test]
 fn stores_agree(rt: HostRuntime) -> Result<(), Fail> {
-    let mut six = [BLANK; 6];
+    let mut six = [Entry::default(); 6];
     let mut undo = made(&rt, &mut six, 10)?;
-    let Ok(mut versions) = VersionStore::new(rt.alloc(), 6, 10) else {
-        return Err(Fail::new("a store that was refused"));
-    };
+    let mut versions = VersionStore::new(rt.alloc(), 6, 10).map_err(|_| Fail::new(
+        "a store that was refused",
+    ))?;
     spend_day(&rt, &mut undo);
     spend_day(&rt, &mut versions);
     for moment in 10..14u64 {

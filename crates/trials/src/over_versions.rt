@@ -8,10 +8,7 @@ use terms::{HIGHEST, Moment};
 use versions::VersionStore;
 
 fn made(rt: &HostRuntime, places: usize, first: Moment) -> Result<VersionStore, Fail> {
-    match VersionStore::new(rt.alloc(), places, first) {
-        Ok(store) => Ok(store),
-        Err(_) => Err(Fail::new("a store that was refused")),
-    }
+    VersionStore::new(rt.alloc(), places, first).map_err(|_| Fail::new("a store that was refused"))
 }
 
 #[test]

@@ -29,8 +29,8 @@ pub fn refuses<D: Database>(rt: &impl Abort, store: &mut D) {
         (&[one; 16], (43, 1)),
         (&seven, (47, 0)),
     ];
-    for case in cases.iter() {
-        assert_eq!(rt; fault_of(store.write(case.0)), case.1);
+    for (changes, wanted) in cases {
+        assert_eq!(rt; fault_of(store.write(changes)), wanted);
         assert_eq!(rt; (store.latest(), store.free()), (10, 6));
     }
     // a key in two tables is two records
@@ -48,8 +48,8 @@ pub fn refuses_at_the_end<D: Database>(rt: &impl Abort, store: &mut D) {
         (&[one], (45, 0)),
         (&[one, set(0, 8, 0, 0)], (45, 0)),
     ];
-    for case in cases.iter() {
-        assert_eq!(rt; fault_of(store.write(case.0)), case.1);
+    for (changes, wanted) in cases {
+        assert_eq!(rt; fault_of(store.write(changes)), wanted);
     }
     assert_eq!(rt; store.latest(), HIGHEST);
     assert_eq!(rt;

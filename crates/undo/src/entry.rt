@@ -20,7 +20,7 @@ pub struct Present {
 }
 
 // An entry of the journal: what a record held, if it was present, before a commit changed it.
-#[derive(Clone, Copy, PartialEq, Eq)]
+#[derive(Clone, Copy, PartialEq, Eq, Default)]
 pub struct Entry {
     pub commit: Moment,
     pub id: RecordId,

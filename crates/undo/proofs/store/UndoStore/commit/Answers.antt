@@ -1,4 +1,4 @@
-use Rattle.std.proofs.Common.{length, vec_items, vec_len, vec_capacity, ap, ◌∙◌, arith, rules}
+use Rattle.std.proofs.Common.{length, vec_items, vec_len, vec_capacity, ap, ◌∙◌, arith}
 use Rattle.database.proofs.Changes.{no_refusal}
 use Rattle.line.specs.Rings.{waiting}
 use Rattle.line.proofs.Rings.{length_waiting_fits}

@@ -1,4 +1,4 @@
-use Rattle.std.proofs.Common.{refl, length, vec_items, ap, arith, rules}
+use Rattle.std.proofs.Common.{refl, length, vec_items, ap, arith}
 use Rattle.database.proofs.Changes.{no_refusal}
 use Rattle.versions.specs.Stores.{Store, store_of, meaning}
 use Rattle.versions.specs.Soundness.{good}
