@@ -1,5 +1,3 @@
-pub mod Searches
-pub mod Counts
 pub mod Sets
 pub mod Readings
 pub mod Changes

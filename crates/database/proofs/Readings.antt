@@ -1,10 +1,9 @@
 -- A reading rests on the records that its query's tag touches, and is one.
-use Rattle.std.proofs.Common.{◌≡◌, ℕ, cond, None, Option, sym, ap, ◌∙◌, subst, arith}
+use Rattle.std.proofs.Common.{◌≡◌, ℕ, cond, None, Option, sym, ap, ◌∙◌, arith}
 use Rattle.std.proofs.lemmas.Bool.Decides.{nat_tests}
 use Rattle.terms.specs.declared.record.Value.{Value}
 use Rattle.terms.specs.declared.record.Query.{Query}
 use Rattle.terms.specs.declared.record.Query.TheVariants.{Get, Tally}
-use Rattle.terms.specs.declared.tag.Tag.{Tag}
 use Rattle.terms.specs.Records.{known_table, shown, query_tag}
 use Rattle.database.specs.States.{Records, seen, in_state, ReadsAlike, ReadsOne}
 use Rattle.database.proofs.Sets.{same_tally}
@@ -17,9 +16,6 @@ reads_alike (Get id) one other reading agree reads =
     reads ∙ ap shown (seen_alike one other id.table id.key (agree id.table id.key (grind (arith, nat_tests))))
 reads_alike (Tally table state) one other reading agree (keys, told, is) =
     (keys, record { once = told.once; these = λ key. told.these key ∙ ap (in_state state) (seen_alike one other table key (agree table key (grind (arith, nat_tests)))) }, is)
-
-pub alike_at : (query : Query) (tag : Tag) → tag ≡ query_tag query → ReadsAlike query tag
-alike_at query tag e = let P : Tag → Type 0 = λ t. ReadsAlike query t in subst P (sym e) (reads_alike query)
 
 pub reads_one : (query : Query) → ReadsOne query
 reads_one (Get id) records one other a b = a ∙ sym b

@@ -127,11 +127,6 @@ every_added p n xs h is =
     (λ (e : among n xs ≡ false). rw e (every_append p xs (n ∷ []) ∙ and_from _ _ h (and_from _ _ is refl)))
     (cases_Bool (among n xs))
 
--- a moment was added to the pins, or nothing changed
-pub every_either : (p : ℕ → Bool) (m : ℕ) (r : Bool) (xs pins : List ℕ) → (r ≡ true → pins ≡ added m xs) → (r ≡ false → pins ≡ xs) → every p xs ≡ true → p m ≡ true → every p pins ≡ true
-every_either p m r xs pins yes_way no_way h is =
-    ⊎_elim (λ e. ap (every p) (yes_way e) ∙ every_added p m xs h is) (λ e. ap (every p) (no_way e) ∙ h) (cases_Bool r)
-
 pub every_without : (p : ℕ → Bool) (m : ℕ) (xs pins : List ℕ) → pins ≡ without m xs → every p xs ≡ true → every p pins ≡ true
 every_without p m xs pins e h = ap (every p) e ∙ every_kept p (λ x. not (eqb x m)) xs h
 

@@ -15,12 +15,19 @@ pub struct Pins {
     ghost once: { distinct moments.items ≡ true },
 }
 
+// Whether a pin is another moment.
+fn is_other(pin: Moment, moment: Moment) -> bool
+    ensures { result ≡ not (pin == moment) }
+{
+    pin != moment
+}
+
 // Lets a moment go.
 fn remove(moments: &mut Vec<Moment>, moment: Moment)
     ensures items { moments.new.items ≡ without moment moments.old.items }
     ensures capacity { vec_capacity moments.new ≡ vec_capacity moments.old }
 {
-    moments.retain(|pin| *pin != moment);
+    moments.retain(|pin| is_other(*pin, moment));
 }
 
 impl Pins {

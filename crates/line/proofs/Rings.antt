@@ -1,7 +1,7 @@
 -- Laws of the elements that wait in a line.
 use Rattle.std.proofs.Common.{◌≡◌, ℕ, zero, suc, ◌+◌, ◌-◌, ◌<◌, ◌≤◌, min, ◌≢◌, List, [], ◌∷◌, ◌++◌, length, get_or, take, drop, set, Some, None, Option, sym, refl, ap, ◌∙◌, ⊎_elim, arith, length-append, length-drop, length-set, length-take}
 use Rattle.std.specs.List.{slice_get}
-use Rattle.std.proofs.lemmas.List.{get_or-take, get_or-drop, get_or_append_left, get_or-append_right, get_or-set_same, get_or-set_other, length-take-le, length_push, get_or_push, same_lists, take_all, take_more, drop_more, nil_from_length, drop-drop, drop_all}
+use Rattle.std.proofs.lemmas.List.{get_or-take, get_or-drop, get_or_append_left, get_or-append_right, get_or-set_same, get_or-set_other, length-take-le, length_push, get_or_push, same_lists, nil_from_length, drop_all}
 use Rattle.std.proofs.lemmas.Option.{slice_get-get_or, slice_get_past}
 use Rattle.std.proofs.lemmas.Bool.{lt-ltb, le-ltb, le-leb, lt-leb, cond-true, cond-false, cases_lt}
 use Rattle.line.specs.declared.line.Line.{Line}
@@ -174,11 +174,6 @@ module _ {X : Type 0} where
       (λ fits. waiting_same l l room (set room at x) fits (omega arith) refl (λ i d lt. get_or-set_other room at (place_of l i) x d (apart i lt)))
       (cases_lt (length room) l.size)
 
-  -- a write past the line's last place
-  pub waiting_set_past : (l : Line) (room : List X) (at : ℕ) (x : X) → l.size ≤ at → waiting l (set room at x) ≡ waiting l room
-  waiting_set_past l room at x past =
-      waiting_set l room at x (λ i lt same. omega (arith, place_within l i (omega arith)))
-
   -- the n oldest have left
   pub waiting_advanced : (l l' : Line) (room : List X) (n : ℕ) → Advanced l n l' → n ≤ l.len → waiting l' room ≡ drop n (waiting l room)
   waiting_advanced l l' room n a le =
@@ -203,10 +198,6 @@ module _ {X : Type 0} where
       ∙ ⊎_elim (λ (more : l.len < n). drop_all (min n l.len) old (omega (arith, length_waiting_le l room)) ∙ sym (drop_all n old (omega (arith, length_waiting_le l room))))
       (λ (few : n ≤ l.len). ap (λ k. drop k old) (omega arith))
       (cases_lt l.len n)
-
-  -- one more pop
-  pub drop_again : (k : ℕ) (xs ys : List X) → ys ≡ drop k xs → drop 1 ys ≡ drop (k + 1) xs
-  drop_again k xs ys e = ap (drop 1) e ∙ drop-drop 1 k xs
 
   -- one more at the end
   pub entered : (l l' : Line) (room : List X) (x : X) (at : ℕ) → l.len < l.size → l.size ≤ length room → at ≡ place_of l l.len → l'.head ≡ l.head → l'.len ≡ l.len + 1 → l'.size ≡ l.size → Entered l room x l' (set room at x)
@@ -252,32 +243,6 @@ module _ {X : Type 0} where
   pub got_within : (xs : List X) (i : ℕ) (x : X) → Some x ≡ slice_get xs i → i < length xs
   got_within xs i x is =
       ⊎_elim (λ low. low) (λ past. let z : ◌≡◌ {A = ℕ} 0 1 = cc (is, slice_get_past xs i past) in absurd (omega arith)) (cases_lt i (length xs))
-
-  none_within : (xs : List X) (i : ℕ) → None ≡ slice_get xs i → i < length xs → ⊥
-  none_within [] i is lt = omega arith
-  none_within (y ∷ ys) zero is lt = let z : ◌≡◌ {A = ℕ} 0 1 = cc in omega arith
-  none_within (y ∷ ys) (suc i) is lt = none_within ys i is (omega arith)
-
-  -- past the last there is none
-  pub none_past : (xs : List X) (i : ℕ) → None ≡ slice_get xs i → length xs ≤ i
-  none_past xs i is =
-      ⊎_elim (λ low. absurd (none_within xs i is low)) (λ past. past) (cases_lt i (length xs))
-
-  -- one step from the oldest to the newest
-  pub walk_more : (xs : List X) (i : ℕ) (x : X) → Some x ≡ slice_get xs i → take (i + 1) xs ≡ take i xs ++ x ∷ []
-  walk_more xs i x is =
-      take_more xs i x (got_within xs i x is) ∙ ap (λ y. take i xs ++ y ∷ []) (sym (got xs i x is x))
-
-  -- and where there is none
-  pub walk_none : (xs : List X) (i : ℕ) → None ≡ slice_get xs i → take (i + 1) xs ≡ take i xs
-  walk_none xs i is =
-      let past = none_past xs i is in
-      take_all (i + 1) xs (omega arith) ∙ sym (take_all i xs past)
-
-  -- one step from the newest to the oldest
-  pub walk_back : (xs : List X) (i : ℕ) (x : X) → Some x ≡ slice_get xs i → drop i xs ≡ x ∷ drop (i + 1) xs
-  walk_back xs i x is =
-      drop_more xs i x (got_within xs i x is) ∙ ap (λ y. y ∷ drop (i + 1) xs) (sym (got xs i x is x))
 
   -- where the i-th is there, more than i wait
   pub some_waits : (l : Line) (room : List X) (i : ℕ) (x : X) → Some x ≡ slice_get (waiting l room) i → i + 1 ≤ l.len

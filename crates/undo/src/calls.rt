@@ -1,5 +1,5 @@
 // The undo store as a database.
-ghost use Rattle.std.specs.Prelude.{◌≡◌, true, false, length, is_ok, IfOk, MatchResult};
+ghost use Rattle.std.specs.Prelude.{◌≡◌, true, false, length, is_ok, IfOk, MatchResult, nat_le};
 ghost use Rattle.database.specs.Databases.{PinsLatest, Unpins, UnpinsAll, Asks, Writes, Written};
 ghost use Rattle.database.specs.Writes.{refusal};
 ghost use Rattle.undo.specs.Soundness;
@@ -14,6 +14,13 @@ use line::Line;
 use std::alloc::Global;
 use terms::{Change, Fault, Moment, Query};
 
+// Whether a store may have so many rows.
+fn is_size(rows: usize) -> bool
+    ensures { result ≡ nat_le rows 4096 }
+{
+    rows <= 4096
+}
+
 impl<'a> UndoStore<'a> {
     // A store that keeps its entries in this journal, empty at its first moment. Its size is the journal's length.
     pub fn new(
@@ -24,7 +31,7 @@ impl<'a> UndoStore<'a> {
         ensures { MatchResult result (λ s. (in_range (length journal.old) first ≡ true) × (store_of s ≡ empty_at (length journal.old) first)) (λ fault. Refused (length journal.old) first fault) }
     {
         let size = journal.len();
-        if size > 4096 {
+        if !is_size(size) {
             return Err(Fault::OutOfRange);
         }
         let line = Line::new(size).ok_or(Fault::OutOfRange)?;

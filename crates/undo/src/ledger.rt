@@ -49,13 +49,20 @@ fn count_needed(entries: &[Entry], lowest: Moment) -> usize
     entries.iter().filter(|entry| entry.commit > lowest).count()
 }
 
+// Whether a present record is another than the one named.
+fn is_other(p: Present, id: RecordId) -> bool
+    ensures { result ≡ other_than id p }
+{
+    id != p.row.id
+}
+
 // Takes a record out of the present ones.
 fn take_out(present: &mut Vec<Present>, id: RecordId)
     ensures items { present.new.items ≡ filter (other_than id) present.old.items }
     ensures capacity { vec_capacity present.new ≡ vec_capacity present.old }
     ensures len { vec_len present.new ≤ vec_len present.old }
 {
-    present.retain(|p| id != p.row.id);
+    present.retain(|p| is_other(*p, id));
 }
 
 // Takes the record out of the present ones, and puts it in again where the change is a set.
