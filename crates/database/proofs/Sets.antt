@@ -3,7 +3,8 @@ use Rattle.std.proofs.Common.{◌≡◌, ℕ, ◌+◌, ◌≤◌, min, Bool, tru
 use Rattle.std.proofs.lemmas.Bool.Decides.{nat_tests}
 use Rattle.std.proofs.lemmas.Bool.{eqb-true, cases_Bool, cases_lt, or_right, and_from, and_parts}
 use Rattle.std.proofs.lemmas.List.Sums.{length-filter, count_by-le-length}
-use Rattle.database.specs.Lists.{every, among, distinct, least, without, added}
+use Rattle.std.specs.List.{list_all}
+use Rattle.database.specs.Lists.{among, distinct, least, without, added}
 use Rattle.database.specs.States.{tallied}
 
 -- what passes a filter is in the list, and passes
@@ -96,7 +97,7 @@ pub length_without_le : (m : ℕ) (xs : List ℕ) → length (without m xs) ≤ 
 length_without_le m xs = length_kept (λ x. not (eqb x m)) xs
 
 -- tests of every element
-pub every_among : (p : ℕ → Bool) (xs : List ℕ) (x : ℕ) → every p xs ≡ true → among x xs ≡ true → p x ≡ true
+pub every_among : (p : ℕ → Bool) (xs : List ℕ) (x : ℕ) → list_all p xs ≡ true → among x xs ≡ true → p x ≡ true
 every_among p [] x e a = grind arith
 every_among p (y ∷ xs) x e a =
     let ih = every_among p xs x in
@@ -106,30 +107,30 @@ pub among_append : (n : ℕ) (xs ys : List ℕ) → among n (xs ++ ys) ≡ (amon
 among_append n [] ys = refl
 among_append n (x ∷ xs) ys = let ih = among_append n xs ys in grind arith
 
-pub every_append : {X : Type 0} (p : X → Bool) (xs ys : List X) → every p (xs ++ ys) ≡ (every p xs && every p ys)
+pub every_append : {X : Type 0} (p : X → Bool) (xs ys : List X) → list_all p (xs ++ ys) ≡ (list_all p xs && list_all p ys)
 every_append p [] ys = refl
 every_append p (x ∷ xs) ys = let ih = every_append p xs ys in grind arith
 
-pub every_kept : {X : Type 0} (p r : X → Bool) (xs : List X) → every p xs ≡ true → every p (filter r xs) ≡ true
+pub every_kept : {X : Type 0} (p r : X → Bool) (xs : List X) → list_all p xs ≡ true → list_all p (filter r xs) ≡ true
 every_kept p r [] h = refl
 every_kept p r (x ∷ xs) h =
     let parts = and_parts _ _ h in
     let ih = every_kept p r xs parts.1 in
     ⊎_elim (λ (e : r x ≡ true). rw e (and_from _ _ parts.0 ih)) (λ (e : r x ≡ false). rw e ih) (cases_Bool (r x))
 
-pub every_weaker : {X : Type 0} (p r : X → Bool) (xs : List X) → ((x : X) → p x ≡ true → r x ≡ true) → every p xs ≡ true → every r xs ≡ true
+pub every_weaker : {X : Type 0} (p r : X → Bool) (xs : List X) → ((x : X) → p x ≡ true → r x ≡ true) → list_all p xs ≡ true → list_all r xs ≡ true
 every_weaker p r [] f h = refl
 every_weaker p r (x ∷ xs) f h = let parts = and_parts _ _ h in and_from _ _ (f x parts.0) (every_weaker p r xs f parts.1)
 
-pub every_added : (p : ℕ → Bool) (n : ℕ) (xs : List ℕ) → every p xs ≡ true → p n ≡ true → every p (added n xs) ≡ true
+pub every_added : (p : ℕ → Bool) (n : ℕ) (xs : List ℕ) → list_all p xs ≡ true → p n ≡ true → list_all p (added n xs) ≡ true
 every_added p n xs h is =
     ⊎_elim (λ (e : among n xs ≡ true). rw e h)
     (λ (e : among n xs ≡ false). rw e (every_append p xs (n ∷ []) ∙ and_from _ _ h (and_from _ _ is refl)))
     (cases_Bool (among n xs))
 
-pub every_without : (p : ℕ → Bool) (m : ℕ) (xs pins : List ℕ) → pins ≡ without m xs → every p xs ≡ true → every p pins ≡ true
-every_without p m xs pins e h = ap (every p) e ∙ every_kept p (λ x. not (eqb x m)) xs h
+pub every_without : (p : ℕ → Bool) (m : ℕ) (xs pins : List ℕ) → pins ≡ without m xs → list_all p xs ≡ true → list_all p pins ≡ true
+every_without p m xs pins e h = ap (list_all p) e ∙ every_kept p (λ x. not (eqb x m)) xs h
 
 -- what is at most a moment is at most every later one
-pub past_later : (m n : ℕ) (pins : List ℕ) → m ≤ n → every (λ pin. leb pin m) pins ≡ true → every (λ pin. leb pin n) pins ≡ true
+pub past_later : (m n : ℕ) (pins : List ℕ) → m ≤ n → list_all (λ pin. leb pin m) pins ≡ true → list_all (λ pin. leb pin n) pins ≡ true
 past_later m n pins h = every_weaker (λ pin. leb pin m) (λ pin. leb pin n) pins (λ x is. grind (arith, nat_tests))

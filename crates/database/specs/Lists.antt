@@ -1,18 +1,10 @@
 -- Lists, and lists of numbers as sets.
 use Rattle.std.specs.Prelude.{ℕ, min, Bool, true, cond, not, ◌&&◌, List, [], ◌∷◌, ◌++◌, filter, ◌==◌, nat_eq}
-use Rattle.std.specs.List.{list_any, list_all}
-
--- whether an element passes the test
-abbrev pub any : {X : Type 0} → (X → Bool) → List X → Bool
-any test xs = list_any test xs
-
--- whether every element passes the test
-abbrev pub every : {X : Type 0} → (X → Bool) → List X → Bool
-every test xs = list_all test xs
+use Rattle.std.specs.List.{list_any}
 
 -- whether a number stands in a list
 abbrev pub among : ℕ → List ℕ → Bool
-among n xs = any (nat_eq n) xs
+among n xs = list_any (nat_eq n) xs
 
 -- no number stands twice in a list
 abbrev pub distinct : List ℕ → Bool

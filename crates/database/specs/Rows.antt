@@ -5,7 +5,7 @@ use Rattle.terms.specs.declared.record.Row.{Row}
 use Rattle.terms.specs.declared.record.Query.{Query}
 use Rattle.terms.specs.declared.record.Query.TheVariants.{Get, Tally}
 use Rattle.terms.specs.Records.{Reading, is_id, known_table, shown}
-use Rattle.database.specs.Lists.{any}
+use Rattle.std.specs.List.{list_any}
 use Rattle.database.specs.States.{Records, tallied}
 
 -- what each record holds, if these are the present ones
@@ -15,7 +15,7 @@ holding (row ∷ rows) table key = cond (is_id row.id (record { table = table; k
 
 -- whether a row is of the record
 abbrev pub present : RecordId → List Row → Bool
-present id rows = any (λ row. is_id id row.id) rows
+present id rows = list_any (λ row. is_id id row.id) rows
 
 -- no record stands twice
 abbrev pub unique : List Row → Bool

@@ -6,7 +6,7 @@ use Rattle.terms.specs.declared.fault.Fault.{Fault}
 use Rattle.terms.specs.declared.fault.Fault.TheVariants.{NoChange, TooManyChanges, RecordRepeated, ChangeTable, MomentsUsedUp, StoreFull}
 use Rattle.terms.specs.Moments.{highest}
 use Rattle.terms.specs.Records.{is_id, known_table, change_id, change_value}
-use Rattle.database.specs.Lists.{any}
+use Rattle.std.specs.List.{list_any}
 use Rattle.database.specs.States.{Records}
 
 -- one change: its record holds what it says, every other what it held
@@ -20,7 +20,7 @@ changed (change ∷ changes) records = changed changes (put change records)
 
 -- whether a change of the list names the record
 abbrev pub names : RecordId → List Change → Bool
-names id changes = any (λ change. is_id id (change_id change)) changes
+names id changes = list_any (λ change. is_id id (change_id change)) changes
 
 -- the first wrong change after those in `earlier`: its table is not there (44), or else its record is named earlier (43)
 abbrev pub wrong_change : List Change → List Change → Option Fault

@@ -1,7 +1,8 @@
 // The pinned moments of a store.
 ghost use Rattle.std.specs.Prelude.{◌≡◌, ℕ, ◌≤◌, Bool, true, false, not, ◌&&◌, ◌||◌, [], ◌∷◌, length, is_ok, IfOk, IfErr, vec_len, vec_capacity, ◌==◌, nat_le, nat_lt};
 ghost use Rattle.terms.specs.declared.fault.Fault.TheVariants.{NoPin};
-ghost use Rattle.database.specs.Lists.{every, among, distinct, added, without};
+ghost use Rattle.std.specs.List.{list_all};
+ghost use Rattle.database.specs.Lists.{among, distinct, added, without};
 
 use std::alloc::{AllocError, Global};
 use terms::{Fault, Moment};
@@ -66,8 +67,8 @@ impl Pins {
         ensures items { is_ok result ≡ true → self.new.moments.items ≡ added moment self.old.moments.items }
         ensures among { is_ok result ≡ true → (n : ℕ) → among n self.new.moments.items ≡ (n == moment || among n self.old.moments.items) }
         ensures same { is_ok result ≡ false → self.new ≡ self.old }
-        ensures upto { every (λ pin. nat_le pin moment) self.old.moments.items ≡ true → every (λ pin. nat_le pin moment) self.new.moments.items ≡ true }
-        ensures from { (floor : ℕ) → every (λ pin. nat_le floor pin) (moment ∷ self.old.moments.items) ≡ true → every (λ pin. nat_le floor pin) (moment ∷ self.new.moments.items) ≡ true }
+        ensures upto { list_all (λ pin. nat_le pin moment) self.old.moments.items ≡ true → list_all (λ pin. nat_le pin moment) self.new.moments.items ≡ true }
+        ensures from { (floor : ℕ) → list_all (λ pin. nat_le floor pin) (moment ∷ self.old.moments.items) ≡ true → list_all (λ pin. nat_le floor pin) (moment ∷ self.new.moments.items) ≡ true }
     {
         if !self.can_add(moment) {
             return Err(Fault::NoPin { frames: 0 });
@@ -83,7 +84,7 @@ impl Pins {
     pub fn unpin(&mut self, moment: Moment)
         ensures items { self.new.moments.items ≡ without moment self.old.moments.items }
         ensures among { (n : ℕ) → among n self.new.moments.items ≡ (among n self.old.moments.items && not (n == moment)) }
-        ensures every { (p : ℕ → Bool) → every p self.old.moments.items ≡ true → every p self.new.moments.items ≡ true }
+        ensures every { (p : ℕ → Bool) → list_all p self.old.moments.items ≡ true → list_all p self.new.moments.items ≡ true }
     {
         remove(&mut self.moments, moment);
     }

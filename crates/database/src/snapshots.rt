@@ -1,7 +1,7 @@
 // The moments at which a store can be read.
 ghost use Rattle.std.specs.Prelude.{◌≡◌, ◌≤◌, true, nat_le};
 ghost use Rattle.terms.specs.Moments.{highest};
-ghost use Rattle.database.specs.Lists.{every};
+ghost use Rattle.std.specs.List.{list_all};
 
 mod calls;
 
@@ -15,7 +15,7 @@ pub struct Snapshots {
     pins: Pins,
     ghost moment: { latest ≤ highest },
     // no pinned moment is later than the latest
-    ghost past: { every (λ pin. nat_le pin latest) pins.moments.items ≡ true },
+    ghost past: { list_all (λ pin. nat_le pin latest) pins.moments.items ≡ true },
 }
 
 impl Snapshots {

@@ -8,7 +8,8 @@ use Rattle.terms.specs.declared.record.Change.TheVariants.{Set}
 use Rattle.terms.specs.declared.tag.Tag.{Tag}
 use Rattle.terms.specs.Moments.{highest}
 use Rattle.terms.specs.Records.{Reading, change_tag}
-use Rattle.database.specs.Lists.{every, distinct}
+use Rattle.std.specs.List.{list_all}
+use Rattle.database.specs.Lists.{distinct}
 use Rattle.database.specs.Rows.{unique}
 use Rattle.database.proofs.Rows.{keys_in}
 use Rattle.database.specs.States.{Records, KeysIn, in_state}
@@ -54,7 +55,7 @@ third = pinnedIn second
 abbrev fine : Store → Bool
 fine s =
     leb s.places 4096 && (leb (length s.kept) s.places && (leb s.latest highest && (leb (length s.pins) 32
-    && (distinct s.pins && (every (λ pin. leb pin s.latest) s.pins && every (dated s.latest) s.kept)))))
+    && (distinct s.pins && (list_all (λ pin. leb pin s.latest) s.pins && list_all (dated s.latest) s.kept)))))
 
 good_if : (s : Store) → fine s ≡ true → ((m : ℕ) → unique (rows_at m s.kept) ≡ true) → Good s
 good_if s ok apart =
@@ -91,7 +92,7 @@ good_third : Good third
 good_third = good_if third refl apart_after
 
 -- what each call needs
-everything : {X : Type 0} (p : X → Bool) (xs : List X) (x : X) → every p xs ≡ true → Among x xs → p x ≡ true
+everything : {X : Type 0} (p : X → Bool) (xs : List X) (x : X) → list_all p xs ≡ true → Among x xs → p x ≡ true
 everything p [] x e a = absurd a
 everything p (y ∷ xs) x e a =
     let parts = and_parts _ _ e in ⊎_elim (λ is. ap p is ∙ parts.0) (λ rest. everything p xs x parts.1 rest) a
@@ -99,9 +100,9 @@ everything p (y ∷ xs) x e a =
 same : (es : List Entry) → Same es es
 same es = record { there = λ x a. a; back = λ x a. a }
 
-missed : (es : List Entry) (key : Key) (ms : List ℕ) (T : ℕ) → every (λ e. every (λ m. not (covered key T e m)) ms) es ≡ true → Looks es key ms T None
+missed : (es : List Entry) (key : Key) (ms : List ℕ) (T : ℕ) → list_all (λ e. list_all (λ m. not (covered key T e m)) ms) es ≡ true → Looks es key ms T None
 missed es key ms T ok e a m b c =
-    let one = everything (λ e. every (λ m. not (covered key T e m)) ms) es e ok a in
+    let one = everything (λ e. list_all (λ m. not (covered key T e m)) ms) es e ok a in
     let two = everything (λ m. not (covered key T e m)) ms m one b in
     both_ways (not (covered key T e m)) (ap not c) two
 

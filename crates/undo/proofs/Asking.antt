@@ -4,7 +4,8 @@ use Rattle.std.proofs.lemmas.Bool.{cases_Bool, cond-true, cond-false, leb-true, 
 use Rattle.terms.specs.declared.record.Query.{Query}
 use Rattle.terms.specs.Records.{query_tag}
 use Rattle.database.specs.declared.Answer.{Answer}
-use Rattle.database.specs.Lists.{every, among}
+use Rattle.std.specs.List.{list_all}
+use Rattle.database.specs.Lists.{among}
 use Rattle.database.specs.States.{Reads}
 use Rattle.database.specs.Rows.{holding, matches, read_matched, read_rows}
 use Rattle.validity.specs.Turns.{between}
@@ -40,7 +41,7 @@ counts_same floor es v r =
     (λ (a : ltb floor v.made ≡ false). not-true _ (sym (cond-false (ltb floor v.made) _ _ a) ∙ r) ∙ sym a)
     (cases_Bool (ltb floor v.made))
 
-pub turns_same : (floor : ℕ) (es : List Entry) (q : Query) (vs : List Version) → every (rightly floor es) vs ≡ true → turns_among (is_told es) q vs ≡ turns_among (is_above floor) q vs
+pub turns_same : (floor : ℕ) (es : List Entry) (q : Query) (vs : List Version) → list_all (rightly floor es) vs ≡ true → turns_among (is_told es) q vs ≡ turns_among (is_above floor) q vs
 turns_same floor es q [] h = refl
 turns_same floor es q (v ∷ vs) h =
     let parts = and_parts _ _ h in

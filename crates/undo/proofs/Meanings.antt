@@ -3,7 +3,8 @@ use Rattle.std.proofs.Common.{◌≡◌, ℕ, ◌+◌, ◌-◌, ◌≤◌, min, 
 use Rattle.std.proofs.lemmas.Bool.{cases_Bool, leb-true, le-leb, and_from, or_right, or_left, eq-eqb}
 use Rattle.terms.specs.declared.record.Change.{Change}
 use Rattle.terms.specs.Moments.{highest}
-use Rattle.database.specs.Lists.{every, among}
+use Rattle.std.specs.List.{list_all}
+use Rattle.database.specs.Lists.{among}
 use Rattle.database.specs.Rows.{holding, unique}
 use Rattle.database.specs.Databases.{Written}
 use Rattle.database.specs.Writes.{refusal}
@@ -36,7 +37,7 @@ lowest_below_held s m a = least_below s.latest s.pins m a
 lowest_latest : (s : Store) → lowest s ≤ s.latest
 lowest_latest s = lowest_below_held s s.latest (or_left _ _ (eq-eqb s.latest s.latest refl))
 
-every_from : (p : ℕ → Bool) (xs : List ℕ) → ((x : ℕ) → among x xs ≡ true → p x ≡ true) → every p xs ≡ true
+every_from : (p : ℕ → Bool) (xs : List ℕ) → ((x : ℕ) → among x xs ≡ true → p x ≡ true) → list_all p xs ≡ true
 every_from p [] h = refl
 every_from p (x ∷ xs) h = and_from _ _ (h x (or_left _ _ (eq-eqb x x refl))) (every_from p xs (λ y a. h y (or_right _ _ a)))
 
@@ -63,13 +64,13 @@ writes s cs good =
 
 -- what of a good store a write has to keep
 pub record Lasting (s : Store) : Type 0 where
-  pub past : every (λ pin. leb pin s.latest) s.pins ≡ true
-  pub kept : every (λ moment. leb s.floor moment) (s.latest ∷ s.pins) ≡ true
+  pub past : list_all (λ pin. leb pin s.latest) s.pins ≡ true
+  pub kept : list_all (λ moment. leb s.floor moment) (s.latest ∷ s.pins) ≡ true
   pub single : unique (rows_of s.present) ≡ true
   pub ascends : ascending s.entries ≡ true
-  pub commits : every (λ entry. leb entry.commit s.latest) s.entries ≡ true
-  pub dates : every (dated s.latest) (versions s.present s.entries) ≡ true
-  pub told : every (rightly s.floor s.entries) (versions s.present s.entries) ≡ true
+  pub commits : list_all (λ entry. leb entry.commit s.latest) s.entries ≡ true
+  pub dates : list_all (dated s.latest) (versions s.present s.entries) ≡ true
+  pub told : list_all (rightly s.floor s.entries) (versions s.present s.entries) ≡ true
   pub apart : (moment table key : ℕ) → is_shown s.floor s.present s.entries moment table key ≡ true
 
 lasting : (s : Store) (cs : List Change) → Good s → Lasting (written cs s)

@@ -3,14 +3,13 @@ use Rattle.std.proofs.Common.{◌≡◌, ℕ, ◌+◌, ◌<◌, ◌≤◌, Bool,
 use Rattle.std.proofs.lemmas.Bool.Decides.{nat_tests as telling}
 use Rattle.std.proofs.lemmas.Bool.{cases_Bool, cases_lt, cond-true, cond-false, leb-true, le-leb, lt-leb, ltb-false, lt-ltb, le-ltb, eq-eqb, and_from, and_parts, and_left, and_right, or_parts}
 use Rattle.std.proofs.lemmas.List.{append-nil, length-append, nil_from_length}
-use Rattle.std.specs.List.{flat_map as joined}
+use Rattle.std.specs.List.{flat_map as joined, list_all}
 use Rattle.terms.specs.declared.record.RecordId.{RecordId}
 use Rattle.terms.specs.declared.record.Value.{Value}
 use Rattle.terms.specs.declared.record.Row.{Row}
 use Rattle.terms.specs.declared.record.Change.{Change}
 use Rattle.terms.specs.declared.record.Change.TheVariants.{Set, Delete}
 use Rattle.terms.specs.Records.{is_id, change_id}
-use Rattle.database.specs.Lists.{every}
 use Rattle.database.specs.Rows.{holding, present, unique}
 use Rattle.undo.specs.Soundness.{only, only_few, shown_from}
 use Rattle.undo.specs.declared.entry.Held.{Held}
@@ -214,14 +213,14 @@ shown_before N m t k (c ∷ cs) ps es o h u is =
 
 -- at and after the last commit the present records are what is shown
 
-entries_late : (m t k : ℕ) (es : List Entry) → every (λ e. leb e.commit m) es ≡ true → joined (shows m t k) (joined replaced_by es) ≡ []
+entries_late : (m t k : ℕ) (es : List Entry) → list_all (λ e. leb e.commit m) es ≡ true → joined (shows m t k) (joined replaced_by es) ≡ []
 entries_late m t k [] h = refl
 entries_late m t k (e ∷ es) h =
     let w = and_parts _ _ h in
     joined_append (shows m t k) (replaced_by e) (joined replaced_by es)
     ∙ nil_append _ _ _ (former_late e.commit m t k e.id e.former (leb-true e.commit m w.0)) (entries_late m t k es w.1)
 
-present_late : (N m t k : ℕ) (ps : List Present) → N ≤ m → every (dated N) (map current ps) ≡ true → joined (shows m t k) (map current ps) ≡ values_in (rows_of ps) t k
+present_late : (N m t k : ℕ) (ps : List Present) → N ≤ m → list_all (dated N) (map current ps) ≡ true → joined (shows m t k) (map current ps) ≡ values_in (rows_of ps) t k
 present_late N m t k [] h d = refl
 present_late N m t k (p ∷ ps) h d =
     let w = and_parts _ _ d in
@@ -251,7 +250,7 @@ unique_values (row ∷ rows) t k u =
     (λ (b : is_id row.id at ≡ false). let u2 : unique rows ≡ true = grind arith in rw b (ih u2))
     (cases_Bool (is_id row.id at))
 
-pub shown_late : (N m t k : ℕ) (ps : List Present) (es : List Entry) → N ≤ m → every (dated N) (map current ps) ≡ true → every (λ e. leb e.commit m) es ≡ true → unique (rows_of ps) ≡ true
+pub shown_late : (N m t k : ℕ) (ps : List Present) (es : List Entry) → N ≤ m → list_all (dated N) (map current ps) ≡ true → list_all (λ e. leb e.commit m) es ≡ true → unique (rows_of ps) ≡ true
     → joined (shows m t k) (versions ps es) ≡ only (holding (rows_of ps) t k)
 shown_late N m t k ps es h d e u =
     parts m t k ps es
@@ -273,11 +272,11 @@ shown_part low m t k (e ∷ es) h =
     rw a (ih ∙ sym (whole ∙ nil_append _ _ _ (former_late e.commit m t k e.id e.former (omega arith)) refl)))
     (cases_Bool (ltb low e.commit))
 
-every_le : (n m : ℕ) (es : List Entry) → n ≤ m → every (λ e. leb e.commit n) es ≡ true → every (λ e. leb e.commit m) es ≡ true
+every_le : (n m : ℕ) (es : List Entry) → n ≤ m → list_all (λ e. leb e.commit n) es ≡ true → list_all (λ e. leb e.commit m) es ≡ true
 every_le n m [] h e = refl
 every_le n m (x ∷ es) h e = let w = and_parts _ _ e in let b = leb-true x.commit n w.0 in and_from _ _ (le-leb x.commit m (omega arith)) (every_le n m es h w.1)
 
-every_front : {X : Type 0} (p : X → Bool) (xs ys : List X) → every p (xs ++ ys) ≡ true → every p xs ≡ true
+every_front : {X : Type 0} (p : X → Bool) (xs ys : List X) → list_all p (xs ++ ys) ≡ true → list_all p xs ≡ true
 every_front p [] ys h = refl
 every_front p (x ∷ xs) ys h = let w = and_parts _ _ h in and_from _ _ w.0 (every_front p xs ys w.1)
 
@@ -290,7 +289,7 @@ shown_to floor m t k ps es f =
 
 -- a write at N = l + 1 that discards up to low
 pub shown_written : (floor low l : ℕ) (cs : List Change) (ps : List Present) (es : List Entry) → floor ≤ low
-    → unique (rows_of ps) ≡ true → every (dated (l + 1)) (versions ps (later low es)) ≡ true → every (λ e. leb e.commit (l + 1)) (later low es) ≡ true
+    → unique (rows_of ps) ≡ true → list_all (dated (l + 1)) (versions ps (later low es)) ≡ true → list_all (λ e. leb e.commit (l + 1)) (later low es) ≡ true
     → ((m t k : ℕ) → is_shown floor ps es m t k ≡ true)
     → (m t k : ℕ) → is_shown low (present_after_all (l + 1) cs ps) (entries_after_all (l + 1) cs ps (later low es)) m t k ≡ true
 shown_written floor low l cs ps es h u d e was m t k =

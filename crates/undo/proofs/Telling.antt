@@ -3,13 +3,12 @@ use Rattle.std.proofs.Common.{◌≡◌, ℕ, ◌+◌, ◌<◌, ◌≤◌, Bool,
 use Rattle.std.proofs.lemmas.Bool.Decides.{nat_tests as telling}
 use Rattle.std.proofs.lemmas.Bool.{cases_Bool, cond-true, cond-false, leb-true, le-leb, ltb-true, ltb-false, lt-ltb, ne_eqb, eq-eqb, and_from, and_parts, and_right, or_left, or_right, or_from, not_from_false, not-true}
 use Rattle.std.proofs.lemmas.List.{append-nil, append_assoc, map-append}
-use Rattle.std.specs.List.{flat_map}
+use Rattle.std.specs.List.{flat_map, list_all}
 use Rattle.terms.specs.declared.record.RecordId.{RecordId}
 use Rattle.terms.specs.declared.record.Row.{Row}
 use Rattle.terms.specs.declared.record.Change.{Change}
 use Rattle.terms.specs.declared.record.Change.TheVariants.{Set, Delete}
 use Rattle.terms.specs.Records.{is_id, change_id}
-use Rattle.database.specs.Lists.{every}
 use Rattle.database.proofs.Rows.{same_id}
 use Rattle.database.proofs.Sets.{every_append, every_weaker}
 use Rattle.undo.specs.declared.entry.Held.{Held}
@@ -44,7 +43,7 @@ versions_change N c ps es =
 
 -- what holds of all versions
 
-every_current : (p : Version → Bool) (id : RecordId) (ps : List Present) → every p (map current ps) ≡ true → every p (map current (filter (other_than id) ps)) ≡ true
+every_current : (p : Version → Bool) (id : RecordId) (ps : List Present) → list_all p (map current ps) ≡ true → list_all p (map current (filter (other_than id) ps)) ≡ true
 every_current p id [] h = refl
 every_current p id (x ∷ ps) h =
     let parts = and_parts _ _ h in
@@ -55,7 +54,7 @@ every_current p id (x ∷ ps) h =
 abbrev Carries : (Version → Bool) → (Version → Bool) → ℕ → Type 0
 Carries p q N = (row : Row) (made : ℕ) → p (record { row = row; made = made; replaced = None }) ≡ true → q (record { row = row; made = made; replaced = Some N }) ≡ true
 
-every_former : (p q : Version → Bool) (N : ℕ) (id : RecordId) (ps : List Present) → Carries p q N → every p (map current ps) ≡ true → every q (former id N (held_of id ps)) ≡ true
+every_former : (p q : Version → Bool) (N : ℕ) (id : RecordId) (ps : List Present) → Carries p q N → list_all p (map current ps) ≡ true → list_all q (former id N (held_of id ps)) ≡ true
 every_former p q N id [] go h = refl
 every_former p q N id (x ∷ ps) go h =
     let parts = and_parts _ _ h in
@@ -69,12 +68,12 @@ every_former p q N id (x ∷ ps) go h =
     (cases_Bool (is_id id x.row.id))
 
 every_change : (p q : Version → Bool) (N : ℕ) (c : Change) (ps : List Present) (es : List Entry) → ((v : Version) → p v ≡ true → q v ≡ true) → Carries p q N
-    → every q (map current (fresh N c)) ≡ true → every p (versions ps es) ≡ true → every q (versions (present_after N c ps) (es ++ entries_by N c ps)) ≡ true
+    → list_all q (map current (fresh N c)) ≡ true → list_all p (versions ps es) ≡ true → list_all q (versions (present_after N c ps) (es ++ entries_by N c ps)) ≡ true
 every_change p q N c ps es weaker go new h =
     let parts = and_parts _ _ (sym (every_append p (map current ps) (flat_map replaced_by es)) ∙ h) in
     let id = change_id c in
-    let up : (vs : List Version) → every p vs ≡ true → every q vs ≡ true = λ vs. every_weaker p q vs weaker in
-    ap (every q) (versions_change N c ps es)
+    let up : (vs : List Version) → list_all p vs ≡ true → list_all q vs ≡ true = λ vs. every_weaker p q vs weaker in
+    ap (list_all q) (versions_change N c ps es)
     ∙ every_append q (map current (filter (other_than id) ps) ++ map current (fresh N c)) (flat_map replaced_by es ++ former id N (held_of id ps))
     ∙ and_from _ _
     (every_append q (map current (filter (other_than id) ps)) (map current (fresh N c)) ∙ and_from _ _ (up (map current (filter (other_than id) ps)) (every_current p id ps parts.0)) new)
@@ -82,15 +81,15 @@ every_change p q N c ps es weaker go new h =
 
 -- the dates
 
-dated_fresh : (N : ℕ) (c : Change) → every (dated N) (map current (fresh N c)) ≡ true
+dated_fresh : (N : ℕ) (c : Change) → list_all (dated N) (map current (fresh N c)) ≡ true
 dated_fresh N (Set id value) = and_from _ _ (and_from _ _ (le-leb N N (omega arith)) refl) refl
 dated_fresh N (Delete id) = refl
 
-dated_change : (N : ℕ) (c : Change) (ps : List Present) (es : List Entry) → every (dated N) (versions ps es) ≡ true → every (dated N) (versions (present_after N c ps) (es ++ entries_by N c ps)) ≡ true
+dated_change : (N : ℕ) (c : Change) (ps : List Present) (es : List Entry) → list_all (dated N) (versions ps es) ≡ true → list_all (dated N) (versions (present_after N c ps) (es ++ entries_by N c ps)) ≡ true
 dated_change N c ps es h =
     every_change (dated N) (dated N) N c ps es (λ v d. d) (λ row made d. and_from _ _ (and_parts _ _ d).0 (le-leb N N (omega arith))) (dated_fresh N c) h
 
-pub dated_changes : (N : ℕ) (cs : List Change) (ps : List Present) (es : List Entry) → every (dated N) (versions ps es) ≡ true → every (dated N) (versions (present_after_all N cs ps) (entries_after_all N cs ps es)) ≡ true
+pub dated_changes : (N : ℕ) (cs : List Change) (ps : List Present) (es : List Entry) → list_all (dated N) (versions ps es) ≡ true → list_all (dated N) (versions (present_after_all N cs ps) (entries_after_all N cs ps es)) ≡ true
 dated_changes N [] ps es h = h
 dated_changes N (c ∷ cs) ps es h = dated_changes N cs (present_after N c ps) (es ++ entries_by N c ps) (dated_change N c ps es h)
 
@@ -105,7 +104,7 @@ dated_later l v d =
     and_from _ _ (le-leb v.made (l + 1) (omega arith)) (replaced_later l v.replaced parts.1)
 
 -- a part of the entries tells a part of the versions
-every_replaced : (p : Version → Bool) (low : ℕ) (es : List Entry) → every p (flat_map replaced_by es) ≡ true → every p (flat_map replaced_by (later low es)) ≡ true
+every_replaced : (p : Version → Bool) (low : ℕ) (es : List Entry) → list_all p (flat_map replaced_by es) ≡ true → list_all p (flat_map replaced_by (later low es)) ≡ true
 every_replaced p low [] h = refl
 every_replaced p low (e ∷ es) h =
     let parts = and_parts _ _ (sym (every_append p (replaced_by e) (flat_map replaced_by es)) ∙ h) in
@@ -115,12 +114,12 @@ every_replaced p low (e ∷ es) h =
     (λ (a : ltb low e.commit ≡ false). rw a ih)
     (cases_Bool (ltb low e.commit))
 
-every_part : (p : Version → Bool) (low : ℕ) (ps : List Present) (es : List Entry) → every p (versions ps es) ≡ true → every p (versions ps (later low es)) ≡ true
+every_part : (p : Version → Bool) (low : ℕ) (ps : List Present) (es : List Entry) → list_all p (versions ps es) ≡ true → list_all p (versions ps (later low es)) ≡ true
 every_part p low ps es h =
     let parts = and_parts _ _ (sym (every_append p (map current ps) (flat_map replaced_by es)) ∙ h) in
     every_append p (map current ps) (flat_map replaced_by (later low es)) ∙ and_from _ _ parts.0 (every_replaced p low es parts.1)
 
-pub dated_part : (l low : ℕ) (ps : List Present) (es : List Entry) → every (dated l) (versions ps es) ≡ true → every (dated (l + 1)) (versions ps (later low es)) ≡ true
+pub dated_part : (l low : ℕ) (ps : List Present) (es : List Entry) → list_all (dated l) (versions ps es) ≡ true → list_all (dated (l + 1)) (versions ps (later low es)) ≡ true
 dated_part l low ps es h = every_weaker (dated l) (dated (l + 1)) (versions ps (later low es)) (dated_later l) (every_part (dated l) low ps es h)
 
 -- what the kept entries tell
@@ -155,23 +154,23 @@ rightly_change floor N c ps es h v r =
     cond-false (ltb floor v.made) _ _ a ∙ not_from_false _ (all ∙ or_from _ _ was new))
     (cases_Bool (ltb floor v.made))
 
-rightly_fresh : (floor N : ℕ) (c : Change) (ps : List Present) (es : List Entry) → floor < N → every (rightly floor (es ++ entries_by N c ps)) (map current (fresh N c)) ≡ true
+rightly_fresh : (floor N : ℕ) (c : Change) (ps : List Present) (es : List Entry) → floor < N → list_all (rightly floor (es ++ entries_by N c ps)) (map current (fresh N c)) ≡ true
 rightly_fresh floor N (Set id value) ps es h =
     let e : Entry = record { commit = N; id = id; former = held_of id ps } in
     let here : tells (e ∷ []) id N ≡ true = or_left _ _ (and_from _ _ (and_from _ _ (eq-eqb id.table id.table refl) (eq-eqb id.key id.key refl)) (eq-eqb N N refl)) in
     and_from _ _ (cond-true (ltb floor N) _ _ (lt-ltb floor N h) ∙ tells_append es (e ∷ []) id N ∙ or_right _ _ here) refl
 rightly_fresh floor N (Delete id) ps es h = refl
 
-told_change : (floor N : ℕ) (c : Change) (ps : List Present) (es : List Entry) → floor < N → every (rightly floor es) (versions ps es) ≡ true
-    → every (rightly floor (es ++ entries_by N c ps)) (versions (present_after N c ps) (es ++ entries_by N c ps)) ≡ true
+told_change : (floor N : ℕ) (c : Change) (ps : List Present) (es : List Entry) → floor < N → list_all (rightly floor es) (versions ps es) ≡ true
+    → list_all (rightly floor (es ++ entries_by N c ps)) (versions (present_after N c ps) (es ++ entries_by N c ps)) ≡ true
 told_change floor N c ps es h t =
     let p = rightly floor es in
     let q = rightly floor (es ++ entries_by N c ps) in
     let up = rightly_change floor N c ps es h in
     every_change p q N c ps es up (λ row made r. up (record { row = row; made = made; replaced = Some N }) r) (rightly_fresh floor N c ps es h) t
 
-pub told_changes : (floor N : ℕ) (cs : List Change) (ps : List Present) (es : List Entry) → floor < N → every (rightly floor es) (versions ps es) ≡ true
-    → every (rightly floor (entries_after_all N cs ps es)) (versions (present_after_all N cs ps) (entries_after_all N cs ps es)) ≡ true
+pub told_changes : (floor N : ℕ) (cs : List Change) (ps : List Present) (es : List Entry) → floor < N → list_all (rightly floor es) (versions ps es) ≡ true
+    → list_all (rightly floor (entries_after_all N cs ps es)) (versions (present_after_all N cs ps) (entries_after_all N cs ps es)) ≡ true
 told_changes floor N [] ps es h t = t
 told_changes floor N (c ∷ cs) ps es h t = told_changes floor N cs (present_after N c ps) (es ++ entries_by N c ps) h (told_change floor N c ps es h t)
 
@@ -187,6 +186,6 @@ rightly_later floor low es h v r =
     (λ (a : ltb low v.made ≡ false). cond-false (ltb low v.made) _ _ a ∙ not_from_false _ (all ∙ and_right _ _ a))
     (cases_Bool (ltb low v.made))
 
-pub told_part : (floor low : ℕ) (ps : List Present) (es : List Entry) → floor ≤ low → every (rightly floor es) (versions ps es) ≡ true → every (rightly low (later low es)) (versions ps (later low es)) ≡ true
+pub told_part : (floor low : ℕ) (ps : List Present) (es : List Entry) → floor ≤ low → list_all (rightly floor es) (versions ps es) ≡ true → list_all (rightly low (later low es)) (versions ps (later low es)) ≡ true
 told_part floor low ps es h t =
     every_weaker (rightly floor es) (rightly low (later low es)) (versions ps (later low es)) (rightly_later floor low es h) (every_part (rightly floor es) low ps es t)

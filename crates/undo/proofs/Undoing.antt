@@ -10,7 +10,7 @@ use Rattle.terms.specs.declared.record.Value.{Value}
 use Rattle.terms.specs.declared.record.Change.{Change}
 use Rattle.terms.specs.declared.record.Change.TheVariants.{Set, Delete}
 use Rattle.terms.specs.Records.{is_id, change_id, change_value}
-use Rattle.database.specs.Lists.{every}
+use Rattle.std.specs.List.{list_all}
 use Rattle.database.specs.States.{Records}
 use Rattle.database.specs.Rows.{holding}
 use Rattle.database.specs.Writes.{put, changed}
@@ -23,7 +23,7 @@ use Rattle.undo.specs.Journals.{former_value, undo, undone, later, rows_of, stat
 
 -- entries that are not later, and entries that still are
 
-pub later_none : (m : ℕ) (es : List Entry) → every (λ e. leb e.commit m) es ≡ true → later m es ≡ []
+pub later_none : (m : ℕ) (es : List Entry) → list_all (λ e. leb e.commit m) es ≡ true → later m es ≡ []
 later_none m [] h = refl
 later_none m (e ∷ es) h =
     let parts = and_parts _ _ h in
@@ -154,51 +154,51 @@ states_before N m (c ∷ cs) ps es t k h =
     states_before N m cs (present_after N c ps) (es ++ entries_by N c ps) t k h ∙ state_before N m c ps es t k h
 
 -- at and after the last commit nothing is undone
-pub state_late : (m : ℕ) (ps : List Present) (es : List Entry) (t k : ℕ) → every (λ e. leb e.commit m) es ≡ true → state_at ps es m t k ≡ holding (rows_of ps) t k
+pub state_late : (m : ℕ) (ps : List Present) (es : List Entry) (t k : ℕ) → list_all (λ e. leb e.commit m) es ≡ true → state_at ps es m t k ≡ holding (rows_of ps) t k
 state_late m ps es t k h = ap (λ xs. undone xs (holding (rows_of ps)) t k) (later_none m es h)
 
 -- the commits
 
-every_one : (p : Entry → Bool) (b : Bool) (e : Entry) → p e ≡ true → every p (cond b (e ∷ []) []) ≡ true
+every_one : (p : Entry → Bool) (b : Bool) (e : Entry) → p e ≡ true → list_all p (cond b (e ∷ []) []) ≡ true
 every_one p true e h = and_from _ _ h refl
 every_one p false e h = refl
 
-commits_by : (N : ℕ) (c : Change) (ps : List Present) → every (λ e. leb e.commit N) (entries_by N c ps) ≡ true
+commits_by : (N : ℕ) (c : Change) (ps : List Present) → list_all (λ e. leb e.commit N) (entries_by N c ps) ≡ true
 commits_by N c ps = every_one (λ e. leb e.commit N) (leaves c (held_of (change_id c) ps)) (record { commit = N; id = change_id c; former = held_of (change_id c) ps }) (le-leb N N (omega arith))
 
-pub commits_change : (N : ℕ) (c : Change) (ps : List Present) (es : List Entry) → every (λ e. leb e.commit N) es ≡ true → every (λ e. leb e.commit N) (es ++ entries_by N c ps) ≡ true
+pub commits_change : (N : ℕ) (c : Change) (ps : List Present) (es : List Entry) → list_all (λ e. leb e.commit N) es ≡ true → list_all (λ e. leb e.commit N) (es ++ entries_by N c ps) ≡ true
 commits_change N c ps es h = every_append (λ e. leb e.commit N) es (entries_by N c ps) ∙ and_from _ _ h (commits_by N c ps)
 
-pub commits_changes : (N : ℕ) (cs : List Change) (ps : List Present) (es : List Entry) → every (λ e. leb e.commit N) es ≡ true → every (λ e. leb e.commit N) (entries_after_all N cs ps es) ≡ true
+pub commits_changes : (N : ℕ) (cs : List Change) (ps : List Present) (es : List Entry) → list_all (λ e. leb e.commit N) es ≡ true → list_all (λ e. leb e.commit N) (entries_after_all N cs ps es) ≡ true
 commits_changes N [] ps es h = h
 commits_changes N (c ∷ cs) ps es h = commits_changes N cs (present_after N c ps) (es ++ entries_by N c ps) (commits_change N c ps es h)
 
-ascending_push : (es : List Entry) (e : Entry) → ascending es ≡ true → every (λ x. leb x.commit e.commit) es ≡ true → ascending (es ++ e ∷ []) ≡ true
+ascending_push : (es : List Entry) (e : Entry) → ascending es ≡ true → list_all (λ x. leb x.commit e.commit) es ≡ true → ascending (es ++ e ∷ []) ≡ true
 ascending_push [] e a h = refl
 ascending_push (x ∷ es) e a h =
     let pa = and_parts _ _ a in
     let ph = and_parts _ _ h in
     and_from _ _ (every_append (λ next. leb x.commit next.commit) es (e ∷ []) ∙ and_from _ _ pa.0 (and_from _ _ ph.0 refl)) (ascending_push es e pa.1 ph.1)
 
-ascending_one : (b : Bool) (es : List Entry) (e : Entry) → ascending es ≡ true → every (λ x. leb x.commit e.commit) es ≡ true → ascending (es ++ cond b (e ∷ []) []) ≡ true
+ascending_one : (b : Bool) (es : List Entry) (e : Entry) → ascending es ≡ true → list_all (λ x. leb x.commit e.commit) es ≡ true → ascending (es ++ cond b (e ∷ []) []) ≡ true
 ascending_one true es e a h = ascending_push es e a h
 ascending_one false es e a h = ap ascending (append-nil es) ∙ a
 
-pub ascending_changes : (N : ℕ) (cs : List Change) (ps : List Present) (es : List Entry) → ascending es ≡ true → every (λ e. leb e.commit N) es ≡ true → ascending (entries_after_all N cs ps es) ≡ true
+pub ascending_changes : (N : ℕ) (cs : List Change) (ps : List Present) (es : List Entry) → ascending es ≡ true → list_all (λ e. leb e.commit N) es ≡ true → ascending (entries_after_all N cs ps es) ≡ true
 ascending_changes N [] ps es a h = a
 ascending_changes N (c ∷ cs) ps es a h =
     ascending_changes N cs (present_after N c ps) (es ++ entries_by N c ps)
     (ascending_one (leaves c (held_of (change_id c) ps)) es (record { commit = N; id = change_id c; former = held_of (change_id c) ps }) a h)
     (commits_change N c ps es h)
 
-every_later : (p : Entry → Bool) (low : ℕ) (es : List Entry) → every p es ≡ true → every p (later low es) ≡ true
+every_later : (p : Entry → Bool) (low : ℕ) (es : List Entry) → list_all p es ≡ true → list_all p (later low es) ≡ true
 every_later p low [] h = refl
 every_later p low (e ∷ es) h =
     let parts = and_parts _ _ h in
     let ih = every_later p low es parts.1 in
     ⊎_elim (λ (a : ltb low e.commit ≡ true). rw a (and_from _ _ parts.0 ih)) (λ (a : ltb low e.commit ≡ false). rw a ih) (cases_Bool (ltb low e.commit))
 
-pub commits_later : (l low : ℕ) (es : List Entry) → every (λ e. leb e.commit l) es ≡ true → every (λ e. leb e.commit (l + 1)) (later low es) ≡ true
+pub commits_later : (l low : ℕ) (es : List Entry) → list_all (λ e. leb e.commit l) es ≡ true → list_all (λ e. leb e.commit (l + 1)) (later low es) ≡ true
 commits_later l low [] h = refl
 commits_later l low (e ∷ es) h =
     let parts = and_parts _ _ h in
@@ -214,7 +214,7 @@ ascending_later low (e ∷ es) a =
     ⊎_elim (λ (b : ltb low e.commit ≡ true). rw b (and_from _ _ (every_later (λ next. leb e.commit next.commit) low es parts.0) ih)) (λ (b : ltb low e.commit ≡ false). rw b ih) (cases_Bool (ltb low e.commit))
 
 -- since the commits ascend, the entries that are needed are the newest
-later_all : (low : ℕ) (e : Entry) (es : List Entry) → low < e.commit → every (λ next. leb e.commit next.commit) es ≡ true → later low es ≡ es
+later_all : (low : ℕ) (e : Entry) (es : List Entry) → low < e.commit → list_all (λ next. leb e.commit next.commit) es ≡ true → later low es ≡ es
 later_all low e [] h a = refl
 later_all low e (x ∷ es) h a =
     let parts = and_parts _ _ a in

@@ -6,7 +6,7 @@ use Rattle.terms.specs.declared.record.Row.{Row}
 use Rattle.terms.specs.declared.record.Change.{Change}
 use Rattle.terms.specs.declared.record.Change.TheVariants.{Set, Delete}
 use Rattle.terms.specs.Records.{is_id, change_id}
-use Rattle.database.specs.Lists.{every}
+use Rattle.std.specs.List.{list_all}
 use Rattle.database.specs.States.{Records}
 use Rattle.database.specs.Rows.{holding}
 use Rattle.undo.specs.declared.entry.Held.{Held}
@@ -83,4 +83,4 @@ entries_after_all moment (change ∷ changes) present entries =
 -- the commits of entries ascend
 abbrev pub ascending : List Entry → Bool
 ascending [] = true
-ascending (entry ∷ entries) = every (λ next. nat_le entry.commit next.commit) entries && ascending entries
+ascending (entry ∷ entries) = list_all (λ next. nat_le entry.commit next.commit) entries && ascending entries

@@ -6,7 +6,8 @@ use Rattle.terms.specs.declared.interval.Interval.{Interval}
 use Rattle.terms.specs.declared.fault.Fault.{Fault}
 use Rattle.terms.specs.declared.fault.Fault.TheVariants.{OutOfRange, OutOfMemory}
 use Rattle.terms.specs.Moments.{highest, is_moment}
-use Rattle.database.specs.Lists.{every, distinct, least, added, without}
+use Rattle.std.specs.List.{list_all}
+use Rattle.database.specs.Lists.{distinct, least, added, without}
 use Rattle.database.specs.Rows.{unique}
 use Rattle.validity.specs.Turns.{between}
 use Rattle.validity.specs.Versions.{dated}
@@ -107,15 +108,15 @@ pub record Good (s : Store) : Type 0 where
   pub moment : s.latest ≤ highest
   pub few : length s.pins ≤ 32
   pub once : distinct s.pins ≡ true
-  pub past : every (λ pin. leb pin s.latest) s.pins ≡ true
+  pub past : list_all (λ pin. leb pin s.latest) s.pins ≡ true
   -- no held moment is below the floor
-  pub kept : every (λ moment. leb s.floor moment) (s.latest ∷ s.pins) ≡ true
+  pub kept : list_all (λ moment. leb s.floor moment) (s.latest ∷ s.pins) ≡ true
   pub single : unique (rows_of s.present) ≡ true
   pub ascends : ascending s.entries ≡ true
-  pub commits : every (λ entry. leb entry.commit s.latest) s.entries ≡ true
-  pub dates : every (dated s.latest) (versions s.present s.entries) ≡ true
+  pub commits : list_all (λ entry. leb entry.commit s.latest) s.entries ≡ true
+  pub dates : list_all (dated s.latest) (versions s.present s.entries) ≡ true
   -- a kept entry tells a made moment exactly if it is above the floor
-  pub told : every (rightly s.floor s.entries) (versions s.present s.entries) ≡ true
+  pub told : list_all (rightly s.floor s.entries) (versions s.present s.entries) ≡ true
   -- of a record the versions visible at a moment from the floor on are the one that it holds there, or none
   pub apart : (moment table key : ℕ) → is_shown s.floor s.present s.entries moment table key ≡ true
 

@@ -1,12 +1,11 @@
 -- The versions that the present records and the kept entries tell, and for how long a reading of them is right.
 use Rattle.std.specs.Prelude.{ℕ, Bool, true, false, cond, not, ◌&&◌, List, [], ◌∷◌, ◌++◌, map, Some, None, filter, Option, ◌==◌, nat_le, nat_lt}
-use Rattle.std.specs.List.{flat_map}
+use Rattle.std.specs.List.{flat_map, list_any}
 use Rattle.terms.specs.declared.record.RecordId.{RecordId}
 use Rattle.terms.specs.declared.record.Value.{Value}
 use Rattle.terms.specs.declared.record.Row.{Row}
 use Rattle.terms.specs.declared.record.Query.{Query}
 use Rattle.terms.specs.Records.{is_id}
-use Rattle.database.specs.Lists.{any}
 use Rattle.undo.specs.declared.entry.Held.{Held}
 use Rattle.undo.specs.declared.entry.Present.{Present}
 use Rattle.undo.specs.declared.entry.Entry.{Entry}
@@ -32,7 +31,7 @@ versions present entries = map current present ++ flat_map replaced_by entries
 
 -- whether a kept entry tells that the record was changed at the moment
 abbrev pub tells : List Entry → RecordId → ℕ → Bool
-tells entries id moment = any (λ entry. is_id id entry.id && moment == entry.commit) entries
+tells entries id moment = list_any (λ entry. is_id id entry.id && moment == entry.commit) entries
 
 -- a made moment counts where a kept entry tells it
 abbrev pub is_told : List Entry → Version → Bool

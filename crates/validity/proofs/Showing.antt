@@ -3,7 +3,8 @@ use Rattle.std.proofs.Common.{◌≡◌, ℕ, Bool, true, false, cond, ◌&&◌,
 use Rattle.std.proofs.lemmas.Bool.Decides.{nat_tests as telling}
 use Rattle.std.proofs.lemmas.Bool.{cases_Bool, cond-true, cond-false, and_from, and_parts, or_right, or_left, eq-eqb}
 use Rattle.terms.specs.declared.record.Query.{Query}
-use Rattle.database.specs.Lists.{every, among}
+use Rattle.std.specs.List.{list_all}
+use Rattle.database.specs.Lists.{among}
 use Rattle.database.specs.Rows.{matches}
 use Rattle.validity.specs.declared.version.Version.{Version}
 use Rattle.validity.specs.Versions.{lasts, visible, rows_at, replacements, turns_by, turns_among, replaced_upto, dated}
@@ -58,23 +59,23 @@ matched_alike p q m n (v ∷ vs) beside h =
     (cases_Bool (matches q v.row))
 
 -- each turn is at most the latest moment
-replaced_past : (l : ℕ) (replaced : Option ℕ) → replaced_upto l replaced ≡ true → every (λ t. leb t l) (replacements replaced) ≡ true
+replaced_past : (l : ℕ) (replaced : Option ℕ) → replaced_upto l replaced ≡ true → list_all (λ t. leb t l) (replacements replaced) ≡ true
 replaced_past l None d = refl
 replaced_past l (Some r) d = grind arith
 
-made_past : (l t : ℕ) (b : Bool) → leb t l ≡ true → every (λ t. leb t l) (cond b (t ∷ []) []) ≡ true
+made_past : (l t : ℕ) (b : Bool) → leb t l ≡ true → list_all (λ t. leb t l) (cond b (t ∷ []) []) ≡ true
 made_past l t true d = and_from _ _ d refl
 made_past l t false d = refl
 
-pub turns_past : (p : Version → Bool) (q : Query) (l : ℕ) (vs : List Version) → every (dated l) vs ≡ true → every (λ t. leb t l) (turns_among p q vs) ≡ true
+pub turns_past : (p : Version → Bool) (q : Query) (l : ℕ) (vs : List Version) → list_all (dated l) vs ≡ true → list_all (λ t. leb t l) (turns_among p q vs) ≡ true
 turns_past p q l [] d = refl
 turns_past p q l (v ∷ vs) d =
     let ih = turns_past p q l vs (and_parts _ _ d).1 in
     let here = and_parts _ _ (and_parts _ _ d).0 in
     let mades = cond (p v) (v.made ∷ []) [] in
-    ap (every (λ t. leb t l)) (turns_cons p q v vs)
+    ap (list_all (λ t. leb t l)) (turns_cons p q v vs)
     ∙ ⊎_elim
-    (λ e. ap (every (λ t. leb t l)) (cond-true (matches q v.row) _ _ e) ∙ every_append (λ t. leb t l) (turns_by p v) (turns_among p q vs)
+    (λ e. ap (list_all (λ t. leb t l)) (cond-true (matches q v.row) _ _ e) ∙ every_append (λ t. leb t l) (turns_by p v) (turns_among p q vs)
     ∙ and_from _ _ (every_append (λ t. leb t l) mades (replacements v.replaced) ∙ and_from _ _ (made_past l v.made (p v) here.0) (replaced_past l v.replaced here.1)) ih)
-    (λ e. ap (every (λ t. leb t l)) (cond-false (matches q v.row) _ _ e) ∙ ih)
+    (λ e. ap (list_all (λ t. leb t l)) (cond-false (matches q v.row) _ _ e) ∙ ih)
     (cases_Bool (matches q v.row))

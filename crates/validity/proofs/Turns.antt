@@ -11,7 +11,8 @@ use Rattle.terms.specs.declared.record.Query.TheVariants.{Get, Tally}
 use Rattle.terms.specs.Records.{Reading}
 use Rattle.terms.specs.Intervals.{contains, reaches}
 use Rattle.validity.specs.declared.scan.Scan.{Scan}
-use Rattle.database.specs.Lists.{every, among, least}
+use Rattle.std.specs.List.{list_all}
+use Rattle.database.specs.Lists.{among, least}
 use Rattle.database.specs.States.{tallied}
 use Rattle.database.specs.Rows.{matches, read_matched}
 use Rattle.database.specs.Databases.{Db, Known}
@@ -132,7 +133,7 @@ end_before : (m : ℕ) (ns : List ℕ) (end : Option ℕ) → end_of m ns ≡ en
 end_before m ns None is = refl
 end_before m ns (Some e) is = (end_among m ns e is).1
 
-until_known : (db : Db) (m : ℕ) (ns : List ℕ) (end : Option ℕ) → every (λ t. leb t db.latest) ns ≡ true → end_of m ns ≡ end → Known db (until_of db.latest end)
+until_known : (db : Db) (m : ℕ) (ns : List ℕ) (end : Option ℕ) → list_all (λ t. leb t db.latest) ns ≡ true → end_of m ns ≡ end → Known db (until_of db.latest end)
 until_known db m ns None past is = refl
 until_known db m ns (Some e) past is = leb-true e db.latest (every_among (λ t. leb t db.latest) ns e past (end_among m ns e is).0)
 
@@ -154,5 +155,5 @@ between_alike l m n ns i t a =
     (λ e. let c = end_covers m n ns t a (leb-false t m e) b in e ∙ sym (lt-leb t n c))
     (cases_Bool (leb t m))
 
-pub between_known : (db : Db) (m : ℕ) (ns : List ℕ) → every (λ t. leb t db.latest) ns ≡ true → Known db (between db.latest m ns).until
+pub between_known : (db : Db) (m : ℕ) (ns : List ℕ) → list_all (λ t. leb t db.latest) ns ≡ true → Known db (between db.latest m ns).until
 between_known db m ns past = until_known db m ns (end_of m ns) past refl

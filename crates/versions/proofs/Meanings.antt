@@ -4,7 +4,7 @@ use Rattle.std.proofs.Common.{sym, ap, ◌∙◌, subst, arith}
 use Rattle.std.proofs.lemmas.Bool.{or_right, or_left, eq-eqb}
 use Rattle.std.proofs.lemmas.List.Sums.{length-filter, count_by-le-length}
 use Rattle.terms.specs.declared.record.Change.{Change}
-use Rattle.database.specs.Lists.{every}
+use Rattle.std.specs.List.{list_all}
 use Rattle.database.specs.Rows.{holding, unique}
 use Rattle.database.specs.Databases.{Pinned, can_pin, Unpins, UnpinsAll, Written}
 use Rattle.terms.specs.Moments.{highest}
@@ -63,9 +63,9 @@ wrote_means s z cs m answer is good =
     let Q : ℕ → Type 0 = λ n. Written (meaning s) cs n (meaning z) in
     subst Q (sym answer) (subst P (sym is) (writes s cs good))
 
-pub wrote_dated : (s z : Store) (cs : List Change) → z ≡ written cs s → Good s → every (dated z.latest) z.kept ≡ true
+pub wrote_dated : (s z : Store) (cs : List Change) → z ≡ written cs s → Good s → list_all (dated z.latest) z.kept ≡ true
 wrote_dated s z cs is good =
-    let P : Store → Type 0 = λ k. every (dated k.latest) k.kept ≡ true in
+    let P : Store → Type 0 = λ k. list_all (dated k.latest) k.kept ≡ true in
     subst P (sym is) (dated_changes (s.latest + 1) cs (needed_of s) (dated_part (needed s.latest s.pins) s.latest s.kept good.dates))
 
 pub wrote_apart : (s z : Store) (cs : List Change) → z ≡ written cs s → Good s → (m : ℕ) → unique (rows_at m z.kept) ≡ true

@@ -11,7 +11,8 @@ use Rattle.terms.specs.declared.record.Row.{Row}
 use Rattle.terms.specs.declared.record.Change.{Change}
 use Rattle.terms.specs.declared.record.Change.TheVariants.{Set, Delete}
 use Rattle.terms.specs.Records.{is_id, change_id, change_value}
-use Rattle.database.specs.Lists.{any, every, among}
+use Rattle.std.specs.List.{list_any, list_all}
+use Rattle.database.specs.Lists.{among}
 use Rattle.database.specs.States.{Records}
 use Rattle.database.specs.Rows.{holding, present, unique}
 use Rattle.database.specs.Writes.{put, changed}
@@ -21,7 +22,7 @@ use Rattle.versions.specs.Versions.{needed, current, retired, fresh, changed_by,
 use Rattle.database.proofs.Sets.{every_append}
 
 -- a version visible at a held moment is needed, so the records of a held moment stay
-any_among : (p : ℕ → Bool) (ns : List ℕ) (n : ℕ) → among n ns ≡ true → p n ≡ true → any p ns ≡ true
+any_among : (p : ℕ → Bool) (ns : List ℕ) (n : ℕ) → among n ns ≡ true → p n ≡ true → list_any p ns ≡ true
 any_among p [] n a h = grind arith
 any_among p (m ∷ ns) n a h =
     let ih = any_among p ns n in
@@ -97,7 +98,7 @@ late_visible N m v h d =
     let e = leb-true v.made N parts.0 in
     ap (λ b. b && lasts v.replaced m) (le-leb v.made m (omega arith)) ∙ late_lasts N m v.replaced h parts.1
 
-pub rows_late : (N m : ℕ) (vs : List Version) → N ≤ m → every (dated N) vs ≡ true → rows_at m vs ≡ rows_at N vs
+pub rows_late : (N m : ℕ) (vs : List Version) → N ≤ m → list_all (dated N) vs ≡ true → rows_at m vs ≡ rows_at N vs
 rows_late N m [] h d = refl
 rows_late N m (v ∷ vs) h d =
     let parts = and_parts _ _ d in
@@ -123,7 +124,7 @@ now_visible N id v d =
     let c = late_visible N N v (omega arith) d in
     grind arith
 
-rows_now : (N : ℕ) (id : RecordId) (vs : List Version) → every (dated N) vs ≡ true → rows_at N (map (retired N id) vs) ≡ filter (others id) (rows_at N vs)
+rows_now : (N : ℕ) (id : RecordId) (vs : List Version) → list_all (dated N) vs ≡ true → rows_at N (map (retired N id) vs) ≡ filter (others id) (rows_at N vs)
 rows_now N id [] d = refl
 rows_now N id (v ∷ vs) d =
     let parts = and_parts _ _ d in
@@ -145,7 +146,7 @@ fresh_now : (N : ℕ) (c : Change) → rows_at N (fresh N c) ≡ fresh_rows c
 fresh_now N (Set id value) = rw (le-leb N N (omega arith)) refl
 fresh_now N (Delete id) = refl
 
-rows_change : (N : ℕ) (c : Change) (vs : List Version) → every (dated N) vs ≡ true → rows_at N (changed_by N c vs) ≡ filter (others (change_id c)) (rows_at N vs) ++ fresh_rows c
+rows_change : (N : ℕ) (c : Change) (vs : List Version) → list_all (dated N) vs ≡ true → rows_at N (changed_by N c vs) ≡ filter (others (change_id c)) (rows_at N vs) ++ fresh_rows c
 rows_change N c vs d =
     rows_append N (map (retired N (change_id c)) vs) (fresh N c)
     ∙ ap (λ rows. rows ++ rows_at N (fresh N c)) (rows_now N (change_id c) vs d)
@@ -186,18 +187,18 @@ dated_retired N id v d =
     let both = and_parts _ _ d in
     and_from _ _ (ap (λ m. leb m N) parts.1 ∙ both.0) (ap (replaced_upto N) parts.2 ∙ dated_replaced N v.replaced (is_id id v.row.id) both.1)
 
-dated_all : (N : ℕ) (id : RecordId) (vs : List Version) → every (dated N) vs ≡ true → every (dated N) (map (retired N id) vs) ≡ true
+dated_all : (N : ℕ) (id : RecordId) (vs : List Version) → list_all (dated N) vs ≡ true → list_all (dated N) (map (retired N id) vs) ≡ true
 dated_all N id [] d = refl
 dated_all N id (v ∷ vs) d = let parts = and_parts _ _ d in and_from _ _ (dated_retired N id v parts.0) (dated_all N id vs parts.1)
 
-dated_fresh : (N : ℕ) (c : Change) → every (dated N) (fresh N c) ≡ true
+dated_fresh : (N : ℕ) (c : Change) → list_all (dated N) (fresh N c) ≡ true
 dated_fresh N (Set id value) = and_from _ _ (and_from _ _ (le-leb N N (omega arith)) refl) refl
 dated_fresh N (Delete id) = refl
 
-dated_change : (N : ℕ) (c : Change) (vs : List Version) → every (dated N) vs ≡ true → every (dated N) (changed_by N c vs) ≡ true
+dated_change : (N : ℕ) (c : Change) (vs : List Version) → list_all (dated N) vs ≡ true → list_all (dated N) (changed_by N c vs) ≡ true
 dated_change N c vs d = every_append (dated N) (map (retired N (change_id c)) vs) (fresh N c) ∙ and_from _ _ (dated_all N (change_id c) vs d) (dated_fresh N c)
 
-pub dated_changes : (N : ℕ) (cs : List Change) (vs : List Version) → every (dated N) vs ≡ true → every (dated N) (changed_by_all N cs vs) ≡ true
+pub dated_changes : (N : ℕ) (cs : List Change) (vs : List Version) → list_all (dated N) vs ≡ true → list_all (dated N) (changed_by_all N cs vs) ≡ true
 dated_changes N [] vs d = d
 dated_changes N (c ∷ cs) vs d = dated_changes N cs (changed_by N c vs) (dated_change N c vs d)
 
@@ -206,7 +207,7 @@ changed_same [] one other h t k = h t k
 changed_same (c ∷ cs) one other h t k =
     changed_same cs (put c one) (put c other) (λ t k. ap (λ (v : Option Value). cond (is_id (change_id c) (record { table = t; key = k })) (change_value c) v) (h t k)) t k
 
-pub rows_changes : (N : ℕ) (cs : List Change) (vs : List Version) → every (dated N) vs ≡ true → (t k : ℕ) → holding (rows_at N (changed_by_all N cs vs)) t k ≡ changed cs (holding (rows_at N vs)) t k
+pub rows_changes : (N : ℕ) (cs : List Change) (vs : List Version) → list_all (dated N) vs ≡ true → (t k : ℕ) → holding (rows_at N (changed_by_all N cs vs)) t k ≡ changed cs (holding (rows_at N vs)) t k
 rows_changes N [] vs d t k = refl
 rows_changes N (c ∷ cs) vs d t k =
     rows_changes N cs (changed_by N c vs) (dated_change N c vs d) t k
@@ -283,14 +284,14 @@ unique_part p m (v ∷ vs) u =
     (cases_Bool (visible m v)))))
     (cases_Bool (p v))
 
-apart_change : (N : ℕ) (c : Change) (vs : List Version) → every (dated N) vs ≡ true → ((m : ℕ) → unique (rows_at m vs) ≡ true) → (m : ℕ) → unique (rows_at m (changed_by N c vs)) ≡ true
+apart_change : (N : ℕ) (c : Change) (vs : List Version) → list_all (dated N) vs ≡ true → ((m : ℕ) → unique (rows_at m vs) ≡ true) → (m : ℕ) → unique (rows_at m (changed_by N c vs)) ≡ true
 apart_change N c vs d u m =
     ⊎_elim
     (λ before. ap unique (rows_before m N (c ∷ []) vs before) ∙ u m)
     (λ late. ap unique (rows_late N m (changed_by N c vs) late (dated_change N c vs d) ∙ rows_change N c vs d) ∙ unique_fresh c (rows_at N vs) (u N))
     (cases_lt m N)
 
-pub apart_changes : (N : ℕ) (cs : List Change) (vs : List Version) → every (dated N) vs ≡ true → ((m : ℕ) → unique (rows_at m vs) ≡ true) → (m : ℕ) → unique (rows_at m (changed_by_all N cs vs)) ≡ true
+pub apart_changes : (N : ℕ) (cs : List Change) (vs : List Version) → list_all (dated N) vs ≡ true → ((m : ℕ) → unique (rows_at m vs) ≡ true) → (m : ℕ) → unique (rows_at m (changed_by_all N cs vs)) ≡ true
 apart_changes N [] vs d u = u
 apart_changes N (c ∷ cs) vs d u = apart_changes N cs (changed_by N c vs) (dated_change N c vs d) (apart_change N c vs d u)
 
@@ -299,7 +300,7 @@ dated_later l None d = refl
 dated_later l (Some r) d = let e = leb-true r l d in le-leb r (l + 1) (omega arith)
 
 -- what is dated by a moment is dated by the next, and a part of it too
-pub dated_part : (p : Version → Bool) (l : ℕ) (vs : List Version) → every (dated l) vs ≡ true → every (dated (l + 1)) (filter p vs) ≡ true
+pub dated_part : (p : Version → Bool) (l : ℕ) (vs : List Version) → list_all (dated l) vs ≡ true → list_all (dated (l + 1)) (filter p vs) ≡ true
 dated_part p l [] d = refl
 dated_part p l (v ∷ vs) d =
     let parts = and_parts _ _ d in

@@ -7,7 +7,8 @@ use Rattle.terms.specs.declared.fault.Fault.TheVariants.{OutOfRange, OutOfMemory
 use Rattle.terms.specs.Moments.{highest, is_moment}
 use Rattle.terms.specs.Records.{query_tag}
 use Rattle.database.specs.declared.Answer.{Answer}
-use Rattle.database.specs.Lists.{every, distinct, added, without}
+use Rattle.std.specs.List.{list_all}
+use Rattle.database.specs.Lists.{distinct, added, without}
 use Rattle.database.specs.Rows.{unique, read_rows}
 use Rattle.database.specs.Databases.{Db}
 use Rattle.validity.specs.declared.version.Version.{Version}
@@ -73,6 +74,6 @@ pub record Good (s : Store) : Type 0 where
   pub moment : s.latest ≤ highest
   pub few : length s.pins ≤ 32
   pub once : distinct s.pins ≡ true
-  pub past : every (λ pin. leb pin s.latest) s.pins ≡ true
-  pub dates : every (dated s.latest) s.kept ≡ true
+  pub past : list_all (λ pin. leb pin s.latest) s.pins ≡ true
+  pub dates : list_all (dated s.latest) s.kept ≡ true
   pub apart : (m : ℕ) → unique (rows_at m s.kept) ≡ true

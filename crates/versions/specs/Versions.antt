@@ -6,7 +6,7 @@ use Rattle.terms.specs.declared.record.Change.{Change}
 use Rattle.terms.specs.declared.record.Change.TheVariants.{Set, Delete}
 use Rattle.terms.specs.declared.interval.Interval.{Interval}
 use Rattle.terms.specs.Records.{is_id, change_id}
-use Rattle.database.specs.Lists.{any}
+use Rattle.std.specs.List.{list_any}
 use Rattle.database.specs.States.{Records}
 use Rattle.database.specs.Rows.{holding}
 use Rattle.validity.specs.declared.version.Version.{Version}
@@ -19,7 +19,7 @@ state_at versions moment = holding (rows_at moment versions)
 
 -- whether the version is visible at a held moment: the latest or a pinned one
 abbrev pub needed : ℕ → List ℕ → Version → Bool
-needed latest pins version = any (λ moment. visible moment version) (latest ∷ pins)
+needed latest pins version = list_any (λ moment. visible moment version) (latest ∷ pins)
 
 -- the made moment of every kept version counts
 abbrev pub counted : Version → Bool

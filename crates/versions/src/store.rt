@@ -1,6 +1,6 @@
 // The version store, as it lies in memory.
 ghost use Rattle.std.specs.Prelude.{◌≡◌, ℕ, ◌≤◌, true, vec_len, vec_capacity};
-ghost use Rattle.database.specs.Lists.{every};
+ghost use Rattle.std.specs.List.{list_all};
 ghost use Rattle.database.specs.Rows.{unique};
 ghost use Rattle.validity.specs.Versions.{rows_at, dated};
 
@@ -17,7 +17,7 @@ pub struct VersionStore {
     ghost fits: { vec_len versions ≤ places },
     ghost room: { places ≤ vec_capacity versions },
     // no version was made or replaced after the latest moment
-    ghost dated: { every (dated snapshots.latest) versions.items ≡ true },
+    ghost dated: { list_all (dated snapshots.latest) versions.items ≡ true },
     // no two versions of a record are visible at one moment
     ghost apart: { ((m : ℕ) → unique (rows_at m versions.items) ≡ true) },
 }

@@ -1,6 +1,6 @@
 // Walks over lists of versions.
 ghost use Rattle.std.specs.Prelude.{◌≡◌, ◌+◌, ◌<◌, ◌≤◌, length, vec_len, vec_capacity, filter};
-ghost use Rattle.database.specs.Lists.{any};
+ghost use Rattle.std.specs.List.{list_any};
 ghost use Rattle.validity.specs.Versions.{visible};
 ghost use Rattle.validity.specs.Scans.{found};
 ghost use Rattle.versions.specs.Versions.{counted, needed, retired, changed_by, changed_by_all};
@@ -11,7 +11,7 @@ use validity::{Scan, Version};
 
 // Whether the version is visible at one of the moments.
 fn is_seen(version: Version, moments: &[Moment]) -> bool
-    ensures { result ≡ any (λ moment. visible moment version) moments.now }
+    ensures { result ≡ list_any (λ moment. visible moment version) moments.now }
 {
     moments.iter().any(|moment| version.is_visible(*moment))
 }

@@ -2,7 +2,8 @@
 ghost use Rattle.std.specs.Prelude.{◌≡◌, ℕ, ◌+◌, min, Bool, true, cond, not, ◌&&◌, ◌||◌, [], length, is_ok, MatchResult, fold, ◌==◌, nat_lt};
 ghost use Rattle.terms.specs.Moments.{highest, is_moment};
 ghost use Rattle.terms.specs.declared.fault.Fault.TheVariants.{NoPin, OutOfRange, OutOfMemory};
-ghost use Rattle.database.specs.Lists.{every, among, least, added, without};
+ghost use Rattle.std.specs.List.{list_all};
+ghost use Rattle.database.specs.Lists.{among, least, added, without};
 
 use super::Snapshots;
 use crate::pins::Pins;
@@ -66,7 +67,7 @@ impl Snapshots {
     pub fn unpin(&mut self, moment: Moment)
         ensures pins { self.new.pins.moments.items ≡ without moment self.old.pins.moments.items }
         ensures among { (n : ℕ) → among n self.new.pins.moments.items ≡ (among n self.old.pins.moments.items && not (n == moment)) }
-        ensures every { (p : ℕ → Bool) → every p self.old.pins.moments.items ≡ true → every p self.new.pins.moments.items ≡ true }
+        ensures every { (p : ℕ → Bool) → list_all p self.old.pins.moments.items ≡ true → list_all p self.new.pins.moments.items ≡ true }
         ensures latest { self.new.latest ≡ self.old.latest }
     {
         self.pins.unpin(moment);
