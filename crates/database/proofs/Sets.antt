@@ -1,5 +1,6 @@
 -- Laws of lists of numbers as sets.
 use Rattle.std.proofs.Common.{◌≡◌, ℕ, ◌+◌, ◌≤◌, min, Bool, true, false, not, ◌&&◌, ◌||◌, eqb, ◌⊎◌, List, [], ◌∷◌, ◌++◌, length, filter, fold, leb, sym, refl, ap, ◌∙◌, inl, inr, ⊎_elim, add-one, arith}
+use Rattle.std.proofs.lemmas.List.Folds.{list_all-append}
 use Rattle.std.proofs.lemmas.Bool.Decides.{nat_tests}
 use Rattle.std.proofs.lemmas.Bool.{eqb-true, cases_Bool, cases_lt, or_right, and_from, and_parts}
 use Rattle.std.proofs.lemmas.List.Sums.{length-filter, count_by-le-length}
@@ -103,14 +104,6 @@ every_among p (y ∷ xs) x e a =
     let ih = every_among p xs x in
     ⊎_elim (λ t. let is : x ≡ y = grind (arith, nat_tests) in ap p is ∙ grind arith) (λ t. grind (arith, nat_tests)) (cases_Bool (eqb x y))
 
-pub among_append : (n : ℕ) (xs ys : List ℕ) → among n (xs ++ ys) ≡ (among n xs || among n ys)
-among_append n [] ys = refl
-among_append n (x ∷ xs) ys = let ih = among_append n xs ys in grind arith
-
-pub every_append : {X : Type 0} (p : X → Bool) (xs ys : List X) → list_all p (xs ++ ys) ≡ (list_all p xs && list_all p ys)
-every_append p [] ys = refl
-every_append p (x ∷ xs) ys = let ih = every_append p xs ys in grind arith
-
 pub every_kept : {X : Type 0} (p r : X → Bool) (xs : List X) → list_all p xs ≡ true → list_all p (filter r xs) ≡ true
 every_kept p r [] h = refl
 every_kept p r (x ∷ xs) h =
@@ -125,7 +118,7 @@ every_weaker p r (x ∷ xs) f h = let parts = and_parts _ _ h in and_from _ _ (f
 pub every_added : (p : ℕ → Bool) (n : ℕ) (xs : List ℕ) → list_all p xs ≡ true → p n ≡ true → list_all p (added n xs) ≡ true
 every_added p n xs h is =
     ⊎_elim (λ (e : among n xs ≡ true). rw e h)
-    (λ (e : among n xs ≡ false). rw e (every_append p xs (n ∷ []) ∙ and_from _ _ h (and_from _ _ is refl)))
+    (λ (e : among n xs ≡ false). rw e (list_all-append p xs (n ∷ []) ∙ and_from _ _ h (and_from _ _ is refl)))
     (cases_Bool (among n xs))
 
 pub every_without : (p : ℕ → Bool) (m : ℕ) (xs pins : List ℕ) → pins ≡ without m xs → list_all p xs ≡ true → list_all p pins ≡ true

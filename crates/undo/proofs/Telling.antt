@@ -1,5 +1,6 @@
 -- What changes and discarding make of the versions that present records and entries tell.
 use Rattle.std.proofs.Common.{◌≡◌, ℕ, ◌+◌, ◌<◌, ◌≤◌, Bool, true, false, cond, ◌&&◌, ◌||◌, eqb, ltb, List, [], ◌∷◌, ◌++◌, map, Some, None, filter, Option, sym, refl, ap, ◌∙◌, ⊎_elim, arith}
+use Rattle.std.proofs.lemmas.List.Folds.{list_all-append}
 use Rattle.std.proofs.lemmas.Bool.Decides.{nat_tests as telling}
 use Rattle.std.proofs.lemmas.Bool.{cases_Bool, cond-true, cond-false, leb-true, le-leb, ltb-true, ltb-false, lt-ltb, ne_eqb, eq-eqb, and_from, and_parts, and_right, or_left, or_right, or_from, not_from_false, not-true}
 use Rattle.std.proofs.lemmas.List.{append-nil, append_assoc, map-append}
@@ -10,7 +11,7 @@ use Rattle.terms.specs.declared.record.Change.{Change}
 use Rattle.terms.specs.declared.record.Change.TheVariants.{Set, Delete}
 use Rattle.terms.specs.Records.{is_id, change_id}
 use Rattle.database.proofs.Rows.{same_id}
-use Rattle.database.proofs.Sets.{every_append, every_weaker}
+use Rattle.database.proofs.Sets.{every_weaker}
 use Rattle.undo.specs.declared.entry.Held.{Held}
 use Rattle.undo.specs.declared.entry.Present.{Present}
 use Rattle.undo.specs.declared.entry.Entry.{Entry}
@@ -70,14 +71,14 @@ every_former p q N id (x ∷ ps) go h =
 every_change : (p q : Version → Bool) (N : ℕ) (c : Change) (ps : List Present) (es : List Entry) → ((v : Version) → p v ≡ true → q v ≡ true) → Carries p q N
     → list_all q (map current (fresh N c)) ≡ true → list_all p (versions ps es) ≡ true → list_all q (versions (present_after N c ps) (es ++ entries_by N c ps)) ≡ true
 every_change p q N c ps es weaker go new h =
-    let parts = and_parts _ _ (sym (every_append p (map current ps) (flat_map replaced_by es)) ∙ h) in
+    let parts = and_parts _ _ (sym (list_all-append p (map current ps) (flat_map replaced_by es)) ∙ h) in
     let id = change_id c in
     let up : (vs : List Version) → list_all p vs ≡ true → list_all q vs ≡ true = λ vs. every_weaker p q vs weaker in
     ap (list_all q) (versions_change N c ps es)
-    ∙ every_append q (map current (filter (other_than id) ps) ++ map current (fresh N c)) (flat_map replaced_by es ++ former id N (held_of id ps))
+    ∙ list_all-append q (map current (filter (other_than id) ps) ++ map current (fresh N c)) (flat_map replaced_by es ++ former id N (held_of id ps))
     ∙ and_from _ _
-    (every_append q (map current (filter (other_than id) ps)) (map current (fresh N c)) ∙ and_from _ _ (up (map current (filter (other_than id) ps)) (every_current p id ps parts.0)) new)
-    (every_append q (flat_map replaced_by es) (former id N (held_of id ps)) ∙ and_from _ _ (up (flat_map replaced_by es) parts.1) (every_former p q N id ps go parts.0))
+    (list_all-append q (map current (filter (other_than id) ps)) (map current (fresh N c)) ∙ and_from _ _ (up (map current (filter (other_than id) ps)) (every_current p id ps parts.0)) new)
+    (list_all-append q (flat_map replaced_by es) (former id N (held_of id ps)) ∙ and_from _ _ (up (flat_map replaced_by es) parts.1) (every_former p q N id ps go parts.0))
 
 -- the dates
 
@@ -107,17 +108,17 @@ dated_later l v d =
 every_replaced : (p : Version → Bool) (low : ℕ) (es : List Entry) → list_all p (flat_map replaced_by es) ≡ true → list_all p (flat_map replaced_by (later low es)) ≡ true
 every_replaced p low [] h = refl
 every_replaced p low (e ∷ es) h =
-    let parts = and_parts _ _ (sym (every_append p (replaced_by e) (flat_map replaced_by es)) ∙ h) in
+    let parts = and_parts _ _ (sym (list_all-append p (replaced_by e) (flat_map replaced_by es)) ∙ h) in
     let ih = every_replaced p low es parts.1 in
     ⊎_elim
-    (λ (a : ltb low e.commit ≡ true). rw a (every_append p (replaced_by e) (flat_map replaced_by (later low es)) ∙ and_from _ _ parts.0 ih))
+    (λ (a : ltb low e.commit ≡ true). rw a (list_all-append p (replaced_by e) (flat_map replaced_by (later low es)) ∙ and_from _ _ parts.0 ih))
     (λ (a : ltb low e.commit ≡ false). rw a ih)
     (cases_Bool (ltb low e.commit))
 
 every_part : (p : Version → Bool) (low : ℕ) (ps : List Present) (es : List Entry) → list_all p (versions ps es) ≡ true → list_all p (versions ps (later low es)) ≡ true
 every_part p low ps es h =
-    let parts = and_parts _ _ (sym (every_append p (map current ps) (flat_map replaced_by es)) ∙ h) in
-    every_append p (map current ps) (flat_map replaced_by (later low es)) ∙ and_from _ _ parts.0 (every_replaced p low es parts.1)
+    let parts = and_parts _ _ (sym (list_all-append p (map current ps) (flat_map replaced_by es)) ∙ h) in
+    list_all-append p (map current ps) (flat_map replaced_by (later low es)) ∙ and_from _ _ parts.0 (every_replaced p low es parts.1)
 
 pub dated_part : (l low : ℕ) (ps : List Present) (es : List Entry) → list_all (dated l) (versions ps es) ≡ true → list_all (dated (l + 1)) (versions ps (later low es)) ≡ true
 dated_part l low ps es h = every_weaker (dated l) (dated (l + 1)) (versions ps (later low es)) (dated_later l) (every_part (dated l) low ps es h)

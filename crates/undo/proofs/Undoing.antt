@@ -1,5 +1,6 @@
 -- Undoing what changes have left in the journal gives back the records before them.
 use Rattle.std.proofs.Common.{◌≡◌, ℕ, suc, ◌+◌, ◌-◌, ◌<◌, ◌≤◌, Bool, true, false, cond, ltb, leb, List, [], ◌∷◌, ◌++◌, length, drop, Some, None, Option, sym, refl, ap, ◌∙◌, ⊎_elim, arith}
+use Rattle.std.proofs.lemmas.List.Folds.{list_all-append}
 use Rattle.std.proofs.lemmas.Bool.Decides.{nat_tests}
 use Rattle.std.proofs.lemmas.Bool.{cases_Bool, cond-true, cond-false, leb-true, le-leb, ltb-true, ltb-false, lt-ltb, le-ltb, and_from, and_parts}
 use Rattle.std.proofs.lemmas.List.{append-nil}
@@ -15,7 +16,6 @@ use Rattle.database.specs.States.{Records}
 use Rattle.database.specs.Rows.{holding}
 use Rattle.database.specs.Writes.{put, changed}
 use Rattle.database.proofs.Rows.{same_id}
-use Rattle.database.proofs.Sets.{every_append}
 use Rattle.undo.specs.declared.entry.Held.{Held}
 use Rattle.undo.specs.declared.entry.Present.{Present}
 use Rattle.undo.specs.declared.entry.Entry.{Entry}
@@ -167,7 +167,7 @@ commits_by : (N : ℕ) (c : Change) (ps : List Present) → list_all (λ e. leb 
 commits_by N c ps = every_one (λ e. leb e.commit N) (leaves c (held_of (change_id c) ps)) (record { commit = N; id = change_id c; former = held_of (change_id c) ps }) (le-leb N N (omega arith))
 
 pub commits_change : (N : ℕ) (c : Change) (ps : List Present) (es : List Entry) → list_all (λ e. leb e.commit N) es ≡ true → list_all (λ e. leb e.commit N) (es ++ entries_by N c ps) ≡ true
-commits_change N c ps es h = every_append (λ e. leb e.commit N) es (entries_by N c ps) ∙ and_from _ _ h (commits_by N c ps)
+commits_change N c ps es h = list_all-append (λ e. leb e.commit N) es (entries_by N c ps) ∙ and_from _ _ h (commits_by N c ps)
 
 pub commits_changes : (N : ℕ) (cs : List Change) (ps : List Present) (es : List Entry) → list_all (λ e. leb e.commit N) es ≡ true → list_all (λ e. leb e.commit N) (entries_after_all N cs ps es) ≡ true
 commits_changes N [] ps es h = h
@@ -178,7 +178,7 @@ ascending_push [] e a h = refl
 ascending_push (x ∷ es) e a h =
     let pa = and_parts _ _ a in
     let ph = and_parts _ _ h in
-    and_from _ _ (every_append (λ next. leb x.commit next.commit) es (e ∷ []) ∙ and_from _ _ pa.0 (and_from _ _ ph.0 refl)) (ascending_push es e pa.1 ph.1)
+    and_from _ _ (list_all-append (λ next. leb x.commit next.commit) es (e ∷ []) ∙ and_from _ _ pa.0 (and_from _ _ ph.0 refl)) (ascending_push es e pa.1 ph.1)
 
 ascending_one : (b : Bool) (es : List Entry) (e : Entry) → ascending es ≡ true → list_all (λ x. leb x.commit e.commit) es ≡ true → ascending (es ++ cond b (e ∷ []) []) ≡ true
 ascending_one true es e a h = ascending_push es e a h

@@ -1,5 +1,6 @@
 -- Between the same turns the same versions are visible, and turns are known.
-use Rattle.std.proofs.Common.{◌≡◌, ℕ, Bool, true, false, cond, ◌&&◌, leb, List, [], ◌∷◌, ◌++◌, Some, None, filter, Option, sym, refl, ap, ◌∙◌, ⊎_elim, arith}
+use Rattle.std.proofs.Common.{◌≡◌, ℕ, Bool, true, false, cond, ◌&&◌, eqb, leb, List, [], ◌∷◌, ◌++◌, Some, None, filter, Option, sym, refl, ap, ◌∙◌, ⊎_elim, arith}
+use Rattle.std.proofs.lemmas.List.Folds.{list_all-append, list_any-append}
 use Rattle.std.proofs.lemmas.Bool.Decides.{nat_tests as telling}
 use Rattle.std.proofs.lemmas.Bool.{cases_Bool, cond-true, cond-false, and_from, and_parts, or_right, or_left, eq-eqb}
 use Rattle.terms.specs.declared.record.Query.{Query}
@@ -8,7 +9,6 @@ use Rattle.database.specs.Lists.{among}
 use Rattle.database.specs.Rows.{matches}
 use Rattle.validity.specs.declared.version.Version.{Version}
 use Rattle.validity.specs.Versions.{lasts, visible, rows_at, replacements, turns_by, turns_among, replaced_upto, dated}
-use Rattle.database.proofs.Sets.{among_append, every_append}
 use Rattle.validity.proofs.Turns.{Alike}
 
 pub turns_cons : (p : Version → Bool) (q : Query) (v : Version) (vs : List Version) → turns_among p q (v ∷ vs) ≡ cond (matches q v.row) (turns_by p v ++ turns_among p q vs) (turns_among p q vs)
@@ -32,7 +32,7 @@ made_alike p m n v beside h =
 visible_alike : (p : Version → Bool) (m n : ℕ) (v : Version) → Beside p m n → Alike m n (turns_by p v) → visible m v ≡ visible n v
 visible_alike p m n v beside h =
     let made = made_alike p m n v beside h in
-    let last = lasts_alike m n v.replaced (λ t in-it. h t (among_append t (cond (p v) (v.made ∷ []) []) (replacements v.replaced) ∙ or_right _ _ in-it)) in
+    let last = lasts_alike m n v.replaced (λ t in-it. h t (list_any-append (eqb t) (cond (p v) (v.made ∷ []) []) (replacements v.replaced) ∙ or_right _ _ in-it)) in
     ap (λ x. x && lasts v.replaced m) made ∙ ap (λ y. leb v.made n && y) last
 
 matched_cons : (q : Query) (m : ℕ) (v : Version) (vs : List Version)
@@ -50,8 +50,8 @@ matched_alike p q m n (v ∷ vs) beside h =
     let rest = turns_among p q vs in
     ⊎_elim
     (λ e. let whole : Alike m n (turns_by p v ++ rest) = λ t w. h t (ap (among t) (turns_cons p q v vs ∙ cond-true (matches q v.row) _ _ e) ∙ w) in
-    let ih = matched_alike p q m n vs beside (λ t w. whole t (among_append t (turns_by p v) rest ∙ or_right _ _ w)) in
-    let same = visible_alike p m n v beside (λ t w. whole t (among_append t (turns_by p v) rest ∙ or_left _ _ w)) in
+    let ih = matched_alike p q m n vs beside (λ t w. whole t (list_any-append (eqb t) (turns_by p v) rest ∙ or_right _ _ w)) in
+    let same = visible_alike p m n v beside (λ t w. whole t (list_any-append (eqb t) (turns_by p v) rest ∙ or_left _ _ w)) in
     let x = matched_cons q m v vs in let y = matched_cons q n v vs in
     x ∙ rw (same, ih) (sym y))
     (λ e. let ih = matched_alike p q m n vs beside (λ t w. h t (ap (among t) (turns_cons p q v vs ∙ cond-false (matches q v.row) _ _ e) ∙ w)) in
@@ -75,7 +75,7 @@ turns_past p q l (v ∷ vs) d =
     let mades = cond (p v) (v.made ∷ []) [] in
     ap (list_all (λ t. leb t l)) (turns_cons p q v vs)
     ∙ ⊎_elim
-    (λ e. ap (list_all (λ t. leb t l)) (cond-true (matches q v.row) _ _ e) ∙ every_append (λ t. leb t l) (turns_by p v) (turns_among p q vs)
-    ∙ and_from _ _ (every_append (λ t. leb t l) mades (replacements v.replaced) ∙ and_from _ _ (made_past l v.made (p v) here.0) (replaced_past l v.replaced here.1)) ih)
+    (λ e. ap (list_all (λ t. leb t l)) (cond-true (matches q v.row) _ _ e) ∙ list_all-append (λ t. leb t l) (turns_by p v) (turns_among p q vs)
+    ∙ and_from _ _ (list_all-append (λ t. leb t l) mades (replacements v.replaced) ∙ and_from _ _ (made_past l v.made (p v) here.0) (replaced_past l v.replaced here.1)) ih)
     (λ e. ap (list_all (λ t. leb t l)) (cond-false (matches q v.row) _ _ e) ∙ ih)
     (cases_Bool (matches q v.row))

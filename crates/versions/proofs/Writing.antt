@@ -1,6 +1,7 @@
 -- What a write makes of the kept versions is what a database means by it.
 use Rattle.std.specs.Prelude.{◌≡◌, ℕ, ◌+◌, ◌<◌, ◌≤◌, Bool, true, false, cond, not, ◌&&◌, ◌||◌, leb, List, [], ◌∷◌, ◌++◌, map, Some, None, filter, Option, ◌==◌, nat_le, nat_lt, refl}
 use Rattle.std.proofs.Common.{sym, ap, ◌∙◌, ⊎_elim, arith}
+use Rattle.std.proofs.lemmas.List.Folds.{list_all-append}
 use Rattle.std.proofs.lemmas.Bool.Decides.{nat_tests}
 use Rattle.std.proofs.lemmas.Bool.{cases_Bool, leb-true, le-leb, lt-leb, lt-ltb, le-ltb, and_from, and_parts, or_left, eqb-true, cases_lt}
 use Rattle.std.proofs.lemmas.List.{map-append, append-nil}
@@ -19,7 +20,6 @@ use Rattle.database.specs.Writes.{put, changed}
 use Rattle.validity.specs.declared.version.Version.{Version}
 use Rattle.validity.specs.Versions.{lasts, visible, rows_at, replaced_upto, dated}
 use Rattle.versions.specs.Versions.{needed, current, retired, fresh, changed_by, changed_by_all}
-use Rattle.database.proofs.Sets.{every_append}
 
 -- a version visible at a held moment is needed, so the records of a held moment stay
 any_among : (p : ℕ → Bool) (ns : List ℕ) (n : ℕ) → among n ns ≡ true → p n ≡ true → list_any p ns ≡ true
@@ -196,7 +196,7 @@ dated_fresh N (Set id value) = and_from _ _ (and_from _ _ (le-leb N N (omega ari
 dated_fresh N (Delete id) = refl
 
 dated_change : (N : ℕ) (c : Change) (vs : List Version) → list_all (dated N) vs ≡ true → list_all (dated N) (changed_by N c vs) ≡ true
-dated_change N c vs d = every_append (dated N) (map (retired N (change_id c)) vs) (fresh N c) ∙ and_from _ _ (dated_all N (change_id c) vs d) (dated_fresh N c)
+dated_change N c vs d = list_all-append (dated N) (map (retired N (change_id c)) vs) (fresh N c) ∙ and_from _ _ (dated_all N (change_id c) vs d) (dated_fresh N c)
 
 pub dated_changes : (N : ℕ) (cs : List Change) (vs : List Version) → list_all (dated N) vs ≡ true → list_all (dated N) (changed_by_all N cs vs) ≡ true
 dated_changes N [] vs d = d
