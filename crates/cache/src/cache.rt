@@ -10,6 +10,7 @@ use crate::entry::Entry;
 use terms::{Moment, Tag};
 
 // A cache is a set of entries. Two entries of one key never share a moment (`Sound`), and each call keeps that.
+// It is said at each call, and by no type: a foreign cache or a lent table may hold anything.
 pub trait Cache {
     // The entries, as a list: what counts is which entries are in it.
     ghost entries: { Self → List Entry };

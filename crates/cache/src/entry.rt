@@ -34,6 +34,7 @@ pub(crate) fn has_moment(interval: Interval) -> bool
 }
 
 // Whether the moment is in the interval, an open one having no end.
+// Apart from `covers` and `Interval::contains`, which are alike but for what an open interval counts: the rules define the three apart.
 fn is_inside(interval: Interval, moment: Moment) -> bool
     ensures { result ≡ inside interval moment }
 {

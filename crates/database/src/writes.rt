@@ -47,6 +47,7 @@ pub fn check_write(latest: Moment, free: u64, changes: &[Change]) -> Result<(), 
     if latest >= HIGHEST {
         return Err(Fault::MomentsUsedUp);
     }
+    // `as`, since a usize has no From to u64
     if free < changes.len() as u64 {
         return Err(Fault::StoreFull);
     }

@@ -5,6 +5,7 @@ mod calls;
 mod laws;
 
 // A ring over the first `size` places of a slice that is lent to each call: the oldest element stands at `head`, and `len` wait.
+// Plain numbers and no buffer of its own: one line serves the lent journal of a store and its owner's own table alike.
 #[derive(Clone, Copy)]
 pub struct Line {
     head: usize,

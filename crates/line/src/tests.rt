@@ -94,10 +94,7 @@ fn entry_of(commit: u64) -> Entry {
 #[test]
 fn entries_wait_past_the_wrap(rt: HostRuntime) -> Result<(), Fail> {
     let mut places = [entry_of(0); 4];
-    let Some(line) = Line::new(3) else {
-        assert!(rt; false);
-        return Ok(());
-    };
+    let line = Line::new(3).ok_or("a line")?;
     let mut journal = Journal {
         entries: &mut places,
         line,
@@ -120,10 +117,7 @@ fn entries_wait_past_the_wrap(rt: HostRuntime) -> Result<(), Fail> {
 
 #[test]
 fn rows_wait_past_the_wrap(rt: HostRuntime) -> Result<(), Fail> {
-    let Some(mut stream) = Stream::new(5) else {
-        assert!(rt; false);
-        return Ok(());
-    };
+    let mut stream = Stream::new(5).ok_or("a stream")?;
     for moment in 1..20 {
         assert!(rt; stream.note(Row { moment, table: 1 }).is_ok());
         assert!(rt; stream.note(Row { moment, table: 2 }).is_ok());
@@ -140,10 +134,7 @@ fn rows_wait_past_the_wrap(rt: HostRuntime) -> Result<(), Fail> {
 fn a_short_slice_is_refused(rt: HostRuntime) -> Result<(), Fail> {
     let mut places = [7u8, 8];
     let mut more = [0u8; 3];
-    let Some(mut line) = Line::new(3) else {
-        assert!(rt; false);
-        return Ok(());
-    };
+    let mut line = Line::new(3).ok_or("a line")?;
     assert!(rt; matches!(line.push(&mut places, 9), Err(Refusal::Short)));
     assert!(rt; line.push(&mut more, 1).is_ok());
     assert!(rt; line.push(&mut more, 2).is_ok());

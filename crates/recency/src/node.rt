@@ -10,6 +10,8 @@ use terms::{Fault, Moment, Tag};
 const MOST: usize = 1024;
 
 // A table with at least one place, whose first `len` places hold the entries by last use, the newest use first.
+// The table is lent and has a length beside it, and is no Vec: a cache allocates nothing.
+// That the size and the soundness stay stands at each call: what a call leaves as it was relates two moments, and no field can say it.
 #[derive(Drop)]
 pub struct Recency<'a> {
     table: &'a mut [Entry],

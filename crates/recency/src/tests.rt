@@ -44,6 +44,7 @@ fn number(found: Option<Entry>) -> u32 {
 // Whether an insert into an empty node is found again at the moment.
 fn keeps(sheet: u8, interval: Interval, tags: &[Tag], moment: Moment) -> bool {
     let mut table = [Entry::blank(); 2];
+    // a let-else, since no Result is answered
     let Ok(mut node) = Recency::new(&mut table) else {
         return false;
     };
@@ -65,9 +66,7 @@ fn keeps(sheet: u8, interval: Interval, tags: &[Tag], moment: Moment) -> bool {
 #[test]
 fn looks_up(rt: HostRuntime) -> Result<(), Fail> {
     let mut table = [Entry::blank(); 4];
-    let Ok(mut node) = Recency::new(&mut table) else {
-        return Err(Fail::new("a size that was refused"));
-    };
+    let mut node = Recency::new(&mut table).map_err(|_| Fail::new("a size that was refused"))?;
     node.insert(offer(1, Interval::ended(11, 12), &[]));
     node.insert(offer(2, Interval::open(13, 13), &[tag(5)]));
     // two moments, the last delivered, and the number that is found
@@ -138,9 +137,7 @@ fn inserts(rt: HostRuntime) {
 #[test]
 fn throws_out(rt: HostRuntime) -> Result<(), Fail> {
     let mut table = [Entry::blank(); 2];
-    let Ok(mut node) = Recency::new(&mut table) else {
-        return Err(Fail::new("a size that was refused"));
-    };
+    let mut node = Recency::new(&mut table).map_err(|_| Fail::new("a size that was refused"))?;
     // the third throws the first out; the fourth takes the place of the third
     for (number, first, end) in [(1, 1, 2), (2, 2, 3), (3, 3, 4), (4, 3, 5)] {
         node.insert(offer(number, Interval::ended(first, end), &[]));

@@ -39,6 +39,7 @@ fn door_of(ticket: Reading) -> Turn
     }
 }
 
+// A switch on the stage, and no closure for each step: the rules give a recipe's state as the plain numbers of a point.
 fn claim_turn(point: Point) -> Turn
     ensures { result ≡ claim_turn point }
 {

@@ -31,6 +31,7 @@ fn tally_turn(point: Point) -> Turn
     if point.stage != 0 {
         return Turn::done(point.last);
     }
+    // a let-else, since no Result is answered
     let Ok(state) = u8::try_from(point.argument) else {
         return Turn::done(None);
     };
@@ -48,6 +49,7 @@ fn tally(state: u32) -> Ask
     }
 }
 
+// A switch on the stage, as in the attendant's recipe.
 fn counts_turn(point: Point) -> Turn
     ensures { result ≡ counts_turn point }
 {
@@ -70,6 +72,7 @@ impl Recipe for Board {
         2
     }
 
+    // A switch on the sheet: a caller names it by its number.
     fn next(&self, point: Point) -> Turn {
         match point.sheet {
             0 => tally_turn(point),

@@ -68,11 +68,13 @@ impl<D: Database, R: Recipe> Evaluation<'_, D, R> {
     }
 
     // A sheet, with at most `depth` sheets above one another.
+    // Sheet, argument and depth are no struct: each call has others, and a question of a recipe has the first two alone.
     fn sheet(&self, sheet: u8, argument: u32, depth: usize) -> Result<Reading, Fault>
         ensures { WorksOut (D.view self.now.db.now) (R.rules self.now.recipe.now) self.now.moment sheet argument depth result }
     {
         self.known(sheet)?;
         let mut point = Point::start(sheet, argument);
+        // counted, and no index: the sheet has 31 answers before the last
         for _ in 0..31usize {
             let turn = self.recipe.next(point);
             let last = match turn.ask {

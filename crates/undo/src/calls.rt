@@ -64,6 +64,8 @@ impl<'a> UndoStore<'a> {
     }
 }
 
+// Its moments are those of `snapshots`, to which four calls hand on in a line each, as the version store's do:
+// a body in the trait could not reach the field without a method more in every database.
 impl Database for UndoStore<'_> {
     ghost view = { λ s. meaning (store_of s) };
 
@@ -73,6 +75,7 @@ impl Database for UndoStore<'_> {
         self.snapshots.latest()
     }
 
+    // `as`, since a usize has no From to u64.
     fn free(&self) -> u64 {
         self.ledger.free(self.snapshots.lowest()) as u64
     }

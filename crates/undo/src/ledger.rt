@@ -8,6 +8,7 @@ use line::Line;
 use terms::{Change, Moment, RecordId, Row};
 
 // The entries wait in the journal, oldest first. There is room for as many present records, reserved at the making.
+// The present records are a list and no map, which would allocate at a write; the journal is lent, with the line's numbers beside it.
 #[derive(Drop)]
 pub struct Ledger<'a> {
     pub(crate) present: Vec<Present>,
@@ -56,7 +57,7 @@ fn is_other(p: Present, id: RecordId) -> bool
     id != p.row.id
 }
 
-// Takes a record out of the present ones.
+// Takes a record out of the present ones. That the room stays is said here and below: between the steps of a write the list stands alone.
 fn take_out(present: &mut Vec<Present>, id: RecordId)
     ensures items { present.new.items ≡ filter (other_than id) present.old.items }
     ensures capacity { vec_capacity present.new ≡ vec_capacity present.old }

@@ -21,6 +21,7 @@ fn scan_version(scan: Scan, floor: Moment, version: Version) -> Scan
 fn scan_entry(scan: Scan, floor: Moment, entry: Entry) -> Scan
     ensures { result ≡ scanned_all (is_above floor) (replaced_by entry) scan }
 {
+    // a let-else, since no Option is answered
     let Some(held) = entry.former else {
         return scan;
     };

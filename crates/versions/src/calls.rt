@@ -42,6 +42,8 @@ impl VersionStore {
     }
 }
 
+// Its moments are those of `snapshots`, to which four calls hand on in a line each, as the undo store's do:
+// a body in the trait could not reach the field without a method more in every database.
 impl Database for VersionStore {
     ghost view = { λ s. meaning (store_of s) };
 
@@ -51,6 +53,7 @@ impl Database for VersionStore {
         self.snapshots.latest()
     }
 
+    // `as`, since a usize has no From to u64.
     #[tactic(auto, using(database::proofs::Sets::length_kept))]
     fn free(&self) -> u64 {
         (self.places - count_needed(&self.versions, &self.snapshots)) as u64

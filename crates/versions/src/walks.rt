@@ -34,6 +34,7 @@ pub(crate) fn count_needed(versions: &[Version], snapshots: &Snapshots) -> usize
 }
 
 // Lets go of the versions that are visible at no held moment.
+// That the room stays is said here and of each change: between the steps of a write the list stands without the store, whose type says it.
 pub(crate) fn discard(versions: &mut Vec<Version>, snapshots: &Snapshots)
     ensures items { versions.new.items ≡ filter (needed snapshots.now.latest snapshots.now.pins.moments.items) versions.old.items }
     ensures capacity { vec_capacity versions.new ≡ vec_capacity versions.old }

@@ -24,6 +24,7 @@ fn after(latest: Moment) -> Moment
     latest.saturating_add(1).min(HIGHEST)
 }
 
+// That the latest moment stays is said of each call that leaves it: it relates two moments of the value, and no field can say it.
 impl Snapshots {
     // The first moment, and none pinned.
     pub fn new(heap: Global, first: Moment) -> Result<Snapshots, Fault>
