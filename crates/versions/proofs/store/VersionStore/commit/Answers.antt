@@ -13,39 +13,27 @@ change_all-requires c =
     let long = ap length c.discard.ensures.items in
     omega (arith, c.discard.new.versions.ok.0, long, room.1, c.discard.ensures.capacity, s.room)
 
-pub invariant_of-self-clause-fits : goal.invariant_of-self-clause-fits
-invariant_of-self-clause-fits c =
+pub invariant_of-self : goal.invariant_of-self
+invariant_of-self c =
     let s = c.args.self.now in
-    let room = no_refusal s.snapshots.latest (meaning (store_of s)).free c.args.changes.now c.requires in
+    let cs = c.args.changes.now in
+    let z : Store = record {
+      places = s.places;
+      latest = c.advance-moment.new.self.latest;
+      pins = vec_items c.advance-moment.new.self.pins.moments;
+      kept = vec_items c.change_all.new.versions;
+    } in
+    let is = wrote (store_of s) z cs _ _ c.requires refl c.advance-moment.ensures.latest c.advance-moment.ensures.answer (ap (λ pins. vec_items pins.moments) c.advance-moment.ensures.pins) c.discard.ensures.items c.change_all.ensures.items in
+    let room = no_refusal s.snapshots.latest (meaning (store_of s)).free cs c.requires in
     let few = needed_few (store_of s) (good s) in
     let long = ap length c.discard.ensures.items in
-    omega (arith, c.change_all.ensures.len, c.discard.new.versions.ok.0, long, room.1)
-
-pub invariant_of-self-clause-dated : goal.invariant_of-self-clause-dated
-invariant_of-self-clause-dated c =
-    let s = c.args.self.now in
-    let cs = c.args.changes.now in
-    let z : Store = record {
-      places = s.places;
-      latest = c.advance-moment.new.self.latest;
-      pins = vec_items c.advance-moment.new.self.pins.moments;
-      kept = vec_items c.change_all.new.versions;
-    } in
-    let is = wrote (store_of s) z cs _ _ c.requires refl c.advance-moment.ensures.latest c.advance-moment.ensures.answer (ap (λ pins. vec_items pins.moments) c.advance-moment.ensures.pins) c.discard.ensures.items c.change_all.ensures.items in
-    wrote_dated (store_of s) z cs is (good s)
-
-pub invariant_of-self-clause-apart : goal.invariant_of-self-clause-apart
-invariant_of-self-clause-apart c =
-    let s = c.args.self.now in
-    let cs = c.args.changes.now in
-    let z : Store = record {
-      places = s.places;
-      latest = c.advance-moment.new.self.latest;
-      pins = vec_items c.advance-moment.new.self.pins.moments;
-      kept = vec_items c.change_all.new.versions;
-    } in
-    let is = wrote (store_of s) z cs _ _ c.requires refl c.advance-moment.ensures.latest c.advance-moment.ensures.answer (ap (λ pins. vec_items pins.moments) c.advance-moment.ensures.pins) c.discard.ensures.items c.change_all.ensures.items in
-    wrote_apart (store_of s) z cs is (good s)
+    record {
+      size = s.size;
+      fits = omega (arith, c.change_all.ensures.len, c.discard.new.versions.ok.0, long, room.1);
+      room = omega (arith, c.change_all.ensures.capacity, c.discard.ensures.capacity, s.room);
+      dated = wrote_dated (store_of s) z cs is (good s);
+      apart = wrote_apart (store_of s) z cs is (good s);
+    }
 
 pub returns : goal.returns
 returns c =
