@@ -37,7 +37,6 @@ LINES = {
         (r"^    (pub\(crate\) )?(len|count|size): usize,", "a length beside a buffer"),
         (r"^    (pub\(crate\) )?\w+: &'a mut (\[\w+\]|Entry),", "a lent buffer in a struct"),
         (r"^    (pub\(crate\) )?line: Line,", "a line's numbers beside a buffer"),
-        (r"^fn held_of\(", "a list searched by hand"),
     ],
     7: [
         (r"^pub trait Test|^impl Test<|^struct (Same|Other|Names|Seen|Needed)\b", "a test as a type of its own"),
@@ -146,6 +145,12 @@ def facts(top):
             yield "(%s): %s" % (", ".join(names), ", ".join(sorted("%s %s" % f for f in found)))
 
 
+def searches(top):
+    for path, name, _, _, body in functions(top):
+        if re.search(r"for \w+ in [^{]*\{\s*if [^{]*\{\s*return Some", body):
+            yield "%s: a list searched by hand: fn %s" % (path, name)
+
+
 def proofs(top):
     count = 0
     for path in sorted(glob.glob(top + "/crates/*/proofs/**/*.antt", recursive=True)):
@@ -159,6 +164,7 @@ def main():
     found = {p: list(by_line(top, p)) for p in LINES}
     found[2] = list(twins(top))
     found[5] = list(facts(top))
+    found[6] += searches(top)
     found[8] = list(proofs(top))
     for point in sorted(found):
         print("point %d: %d" % (point, len(found[point])))

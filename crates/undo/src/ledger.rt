@@ -1,5 +1,6 @@
 // The present records and the journal of a store.
-ghost use Rattle.std.specs.Prelude.{◌≡◌, ◌+◌, ◌-◌, ◌<◌, ◌≤◌, min, ◌∷◌, [], ◌++◌, length, drop, vec_len, vec_capacity, filter, nat_lt};
+ghost use Rattle.std.specs.Prelude.{◌≡◌, ◌+◌, ◌-◌, ◌<◌, ◌≤◌, min, ◌∷◌, [], ◌++◌, length, drop, vec_len, vec_capacity, filter, find, nat_lt};
+ghost use Rattle.terms.specs.Records.{is_id};
 ghost use Rattle.line.specs.Rings.{waiting};
 ghost use Rattle.undo.specs.Journals.{held_of, other_than, present_after, leaves, entries_by, present_after_all, entries_after_all, later};
 
@@ -18,19 +19,23 @@ pub struct Ledger<'a> {
     ghost fits: { line.size ≤ length journal.now },
 }
 
+// The present record of this name, if it is there.
+fn find_present(present: &[Present], id: RecordId) -> Option<Present>
+    ensures { result ≡ find (λ p. is_id id p.row.id) present.now }
+{
+    present.iter().copied().find(|p| id == p.row.id)
+}
+
 // What is held of a record, if it is present.
+#[tactic(auto, using(crate::proofs::Finding::held_found, crate::proofs::Finding::held_missing))]
 fn held_of(present: &[Present], id: RecordId) -> Option<Held>
     ensures { result ≡ held_of id present.now }
 {
-    for p in present {
-        if id == p.row.id {
-            return Some(Held {
-                value: p.row.value,
-                made: p.made,
-            });
-        }
-    }
-    None
+    let p = find_present(present, id)?;
+    Some(Held {
+        value: p.row.value,
+        made: p.made,
+    })
 }
 
 // Whether a change leaves an entry, where this was held of its record.
