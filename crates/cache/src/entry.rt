@@ -34,7 +34,8 @@ pub(crate) fn has_moment(interval: Interval) -> bool
 }
 
 // Whether the moment is in the interval, an open one having no end.
-// Apart from `covers` and `Interval::contains`, which are alike but for what an open interval counts: the rules define the three apart.
+// Apart from `covers` and `Interval::contains`, which are alike but for what an open interval counts, so that each is a match on its kind:
+// the rules define the three apart.
 fn is_inside(interval: Interval, moment: Moment) -> bool
     ensures { result ≡ inside interval moment }
 {
@@ -53,7 +54,7 @@ fn share_moment(one: Interval, other: Interval) -> bool
 }
 
 impl Entry {
-    // What may stand in a place of a table that is not used.
+    // What may stand in a place of a table that is not used. By hand: a derive would give sheet 0, which an entry may have.
     pub fn blank() -> Entry
         ensures { result ≡ blank_entry }
     {

@@ -10,7 +10,7 @@ use Rattle.terms.specs.Moments.{highest}
 use Rattle.terms.specs.Records.{query_tag}
 use Rattle.terms.specs.Intervals.{contains}
 use Rattle.database.specs.declared.Answer.{Answer}
-use Rattle.database.specs.Lists.{among, distinct}
+use Rattle.database.specs.Lists.{among, distinct, can_add}
 use Rattle.database.specs.States.{Records, KeysIn, Reads}
 use Rattle.database.specs.Writes.{changed, refusal}
 
@@ -41,7 +41,7 @@ KeepsStates kept before after = (moment table key : ℕ) → held kept moment �
 
 -- whether the latest moment can be pinned: it is pinned already, or fewer than 32 others are
 abbrev pub can_pin : Db → Bool
-can_pin db = among db.latest db.pins || nat_lt (length db.pins) 32
+can_pin db = can_add db.latest db.pins
 
 -- the latest moment is pinned, and answered
 pub record Pinned (before : Db) (moment : ℕ) (after : Db) : Type 0 where

@@ -1,5 +1,5 @@
 -- Lists, and lists of numbers as sets.
-use Rattle.std.specs.Prelude.{ℕ, min, Bool, true, cond, not, ◌&&◌, List, [], ◌∷◌, ◌++◌, filter, ◌==◌, nat_eq}
+use Rattle.std.specs.Prelude.{ℕ, min, Bool, true, cond, not, ◌&&◌, ◌||◌, List, [], ◌∷◌, ◌++◌, length, filter, ◌==◌, nat_eq, nat_lt}
 use Rattle.std.specs.List.{list_any}
 
 -- whether a number stands in a list
@@ -10,6 +10,10 @@ among n xs = list_any (nat_eq n) xs
 abbrev pub distinct : List ℕ → Bool
 distinct [] = true
 distinct (x ∷ xs) = not (among x xs) && distinct xs
+
+-- whether a list of at most 32 numbers, each once, can hold the number: it does already, or it has fewer than 32
+abbrev pub can_add : ℕ → List ℕ → Bool
+can_add n xs = among n xs || nat_lt (length xs) 32
 
 -- the smallest number of a list that begins with n
 abbrev pub least : ℕ → List ℕ → ℕ

@@ -1,5 +1,5 @@
 -- What a list of changes makes of a state, and when it is refused.
-use Rattle.std.specs.Prelude.{ℕ, Bool, cond, List, [], ◌∷◌, ◌++◌, length, Some, None, Option, ◌==◌, nat_lt}
+use Rattle.std.specs.Prelude.{◌≡◌, ℕ, Bool, cond, List, [], ◌∷◌, ◌++◌, length, Some, None, MatchResult, Option, Result, ◌==◌, nat_lt}
 use Rattle.terms.specs.declared.record.RecordId.{RecordId}
 use Rattle.terms.specs.declared.record.Change.{Change}
 use Rattle.terms.specs.declared.fault.Fault.{Fault}
@@ -45,6 +45,10 @@ no_room latest free changes =
 abbrev pub or_else : Option Fault → Option Fault → Option Fault
 or_else (Some fault) other = Some fault
 or_else None other = other
+
+-- an answer that refuses exactly what there is to refuse
+abbrev pub Refuses : Option Fault → Result (Unit {0}) Fault → Type 0
+Refuses reason answer = MatchResult answer (λ _. reason ≡ None) (λ fault. reason ≡ Some fault)
 
 -- why a write is refused, if it is
 abbrev pub refusal : ℕ → ℕ → List Change → Option Fault

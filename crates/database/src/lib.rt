@@ -1,8 +1,8 @@
 // What a database means, for every kind of database.
 #![tactic(auto)]
 
-ghost use Rattle.std.specs.Prelude.{◌≡◌, MatchResult};
-ghost use Rattle.database.specs.Writes.{refusal};
+ghost use Rattle.std.specs.Prelude.{◌≡◌};
+ghost use Rattle.database.specs.Writes.{refusal, Refuses};
 ghost use Rattle.database.specs.Databases.{Db, Sound, PinsLatest, Unpins, UnpinsAll, Asks, Writes};
 
 pub mod agree;
@@ -46,13 +46,13 @@ pub trait Database {
     fn unpin_all(&mut self)
         ensures { UnpinsAll (view self.old) (view self.new) };
 
-    // Reads a query at a held moment.
+    // Reads a query at a held moment. The two are no struct: a caller has a moment for many queries, and a query for many moments.
     fn ask(&self, moment: Moment, query: Query) -> Result<Answer, Fault>
         ensures { Asks (view self.now) moment query result };
 
     // Refuses changes that a write would refuse.
     fn check(&self, changes: &[Change]) -> Result<(), Fault>
-        ensures { MatchResult result (λ _. refusal (view self.now).latest (view self.now).free changes.now ≡ None) (λ fault. refusal (view self.now).latest (view self.now).free changes.now ≡ Some fault) }
+        ensures { Refuses (refusal (view self.now).latest (view self.now).free changes.now) result }
     {
         check_write(self.latest(), self.free(), changes)
     }

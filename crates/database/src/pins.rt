@@ -2,7 +2,7 @@
 ghost use Rattle.std.specs.Prelude.{◌≡◌, ℕ, ◌≤◌, Bool, true, false, not, ◌&&◌, ◌||◌, [], ◌∷◌, length, is_ok, IfOk, IfErr, vec_len, vec_capacity, ◌==◌, nat_le, nat_lt};
 ghost use Rattle.terms.specs.declared.fault.Fault.TheVariants.{NoPin};
 ghost use Rattle.std.specs.List.{list_all};
-ghost use Rattle.database.specs.Lists.{among, distinct, added, without};
+ghost use Rattle.database.specs.Lists.{among, distinct, can_add, added, without};
 
 use std::alloc::{AllocError, Global};
 use terms::{Fault, Moment};
@@ -16,14 +16,14 @@ pub struct Pins {
     ghost once: { distinct moments.items ≡ true },
 }
 
-// Whether a pin is another moment.
+// Whether a pin is another moment: what stays is decided here, where no proof is written out.
 fn is_other(pin: Moment, moment: Moment) -> bool
     ensures { result ≡ not (pin == moment) }
 {
     pin != moment
 }
 
-// Lets a moment go.
+// Lets a moment go. A list of its own with its room would have to say at each call that its most stays, as this says of the capacity.
 fn remove(moments: &mut Vec<Moment>, moment: Moment)
     ensures items { moments.new.items ≡ without moment moments.old.items }
     ensures capacity { vec_capacity moments.new ≡ vec_capacity moments.old }
@@ -51,18 +51,11 @@ impl Pins {
         self.moments.contains(&moment)
     }
 
-    // Whether the moment is there, or fewer than 32 others are.
-    fn can_add(&self, moment: Moment) -> bool
-        ensures { result ≡ (among moment self.now.moments.items || nat_lt (length self.now.moments.items) 32) }
-    {
-        self.contains(moment) || self.moments.len() < 32
-    }
-
     // Pins a moment, if it is pinned already or fewer than 32 are. Tells also which moments are there then,
     // and that they stay at most this one, or at least a floor, if they were.
     #[tactic(auto, using(crate::proofs::Sets::among_added, crate::proofs::Sets::every_added, crate::proofs::Sets::distinct_push))]
     pub fn pin(&mut self, moment: Moment) -> Result<(), Fault>
-        ensures can { is_ok result ≡ (among moment self.old.moments.items || nat_lt (length self.old.moments.items) 32) }
+        ensures can { is_ok result ≡ can_add moment self.old.moments.items }
         ensures fault { IfErr result (λ fault. fault ≡ NoPin 0) }
         ensures items { is_ok result ≡ true → self.new.moments.items ≡ added moment self.old.moments.items }
         ensures among { is_ok result ≡ true → (n : ℕ) → among n self.new.moments.items ≡ (n == moment || among n self.old.moments.items) }
@@ -70,12 +63,13 @@ impl Pins {
         ensures upto { list_all (λ pin. nat_le pin moment) self.old.moments.items ≡ true → list_all (λ pin. nat_le pin moment) self.new.moments.items ≡ true }
         ensures from { (floor : ℕ) → list_all (λ pin. nat_le floor pin) (moment ∷ self.old.moments.items) ≡ true → list_all (λ pin. nat_le floor pin) (moment ∷ self.new.moments.items) ≡ true }
     {
-        if !self.can_add(moment) {
+        if self.contains(moment) {
+            return Ok(());
+        }
+        if self.moments.len() >= 32 {
             return Err(Fault::NoPin { frames: 0 });
         }
-        if !self.contains(moment) {
-            self.moments.push_reserved(moment);
-        }
+        self.moments.push_reserved(moment);
         Ok(())
     }
 

@@ -1,6 +1,6 @@
 // Whether a write is refused, for every kind of database.
-ghost use Rattle.std.specs.Prelude.{◌≡◌, [], MatchResult};
-ghost use Rattle.database.specs.Writes.{names, wrong_change, wrong_list, refusal};
+ghost use Rattle.std.specs.Prelude.{◌≡◌, []};
+ghost use Rattle.database.specs.Writes.{names, wrong_change, wrong_list, refusal, Refuses};
 
 use terms::{Change, Fault, HIGHEST, Moment, RecordId};
 
@@ -13,7 +13,7 @@ fn is_named(id: RecordId, changes: &[Change]) -> bool
 
 // Refuses the first change whose table is not there, or whose record is named before it.
 fn check_each(changes: &[Change]) -> Result<(), Fault>
-    ensures { MatchResult result (λ _. wrong_change [] changes.now ≡ None) (λ fault. wrong_change [] changes.now ≡ Some fault) }
+    ensures { Refuses (wrong_change [] changes.now) result }
 {
     for (index, change) in changes.iter().enumerate() {
         if !change.id().is_known() {
@@ -28,7 +28,7 @@ fn check_each(changes: &[Change]) -> Result<(), Fault>
 
 // Refuses a list of changes in which something is wrong, whatever the database holds.
 pub fn check_list(changes: &[Change]) -> Result<(), Fault>
-    ensures { MatchResult result (λ _. wrong_list changes.now ≡ None) (λ fault. wrong_list changes.now ≡ Some fault) }
+    ensures { Refuses (wrong_list changes.now) result }
 {
     if changes.is_empty() {
         return Err(Fault::NoChange);
@@ -41,7 +41,7 @@ pub fn check_list(changes: &[Change]) -> Result<(), Fault>
 
 // Refuses a write of these changes to a database with this latest moment and free number, if there is a reason to.
 pub fn check_write(latest: Moment, free: u64, changes: &[Change]) -> Result<(), Fault>
-    ensures { MatchResult result (λ _. refusal latest free changes.now ≡ None) (λ fault. refusal latest free changes.now ≡ Some fault) }
+    ensures { Refuses (refusal latest free changes.now) result }
 {
     check_list(changes)?;
     if latest >= HIGHEST {

@@ -30,6 +30,7 @@ impl Journal<'_> {
         ensures first { result ≡ slice_get (waiting self.old.line self.old.entries.now) 0 }
         ensures rest { waiting self.new.line self.new.entries.now ≡ drop 1 (waiting self.old.line self.old.entries.now) }
     {
+        // a field that is a `&mut` is lent for reading from a variable
         let entries = &mut *self.entries;
         let mut line = self.line;
         let oldest = line.pop(entries);

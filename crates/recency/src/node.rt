@@ -92,7 +92,7 @@ impl<'a> Recency<'a> {
         self.len = kept;
     }
 
-    // Makes of each entry what a close makes of it. By index, as the rules ask of the walk of a close.
+    // Makes of each entry what a close makes of it. By index: that is the form set for the walk of a close (DECISIONS).
     fn close_each(&mut self, tag: Tag, moment: u64)
         ensures order { recent self.new ≡ map (closed tag moment) (recent self.old) }
         ensures size { size_of self.new ≡ size_of self.old }

@@ -44,7 +44,6 @@ fn number(found: Option<Entry>) -> u32 {
 // Whether an insert into an empty node is found again at the moment.
 fn keeps(sheet: u8, interval: Interval, tags: &[Tag], moment: Moment) -> bool {
     let mut table = [Entry::blank(); 2];
-    // a let-else, since no Result is answered
     let Ok(mut node) = Recency::new(&mut table) else {
         return false;
     };

@@ -31,7 +31,6 @@ fn tally_turn(point: Point) -> Turn
     if point.stage != 0 {
         return Turn::done(point.last);
     }
-    // a let-else, since no Result is answered
     let Ok(state) = u8::try_from(point.argument) else {
         return Turn::done(None);
     };

@@ -68,7 +68,7 @@ impl<D: Database, R: Recipe> Evaluation<'_, D, R> {
     }
 
     // A sheet, with at most `depth` sheets above one another.
-    // Sheet, argument and depth are no struct: each call has others, and a question of a recipe has the first two alone.
+    // Sheet and argument are named apart, as a recipe's question names them: `Key` is the cache's, of which a recipe knows nothing.
     fn sheet(&self, sheet: u8, argument: u32, depth: usize) -> Result<Reading, Fault>
         ensures { WorksOut (D.view self.now.db.now) (R.rules self.now.recipe.now) self.now.moment sheet argument depth result }
     {
@@ -102,7 +102,7 @@ impl<D: Database, R: Recipe> Evaluation<'_, D, R> {
             → Worth (D.view self.now.db.now) self.now.moment (λ records reading. GivesWithin (R.rules self.now.recipe.now) records depth sheet argument reading) result }
     {
         self.sheet(sheet, argument, depth)
-            .or(Err(Fault::NotHeld { frames: 0 }))
+            .map_err(|_| Fault::NotHeld { frames: 0 })
     }
 }
 

@@ -7,7 +7,7 @@ use std::alloc::AllocError;
 
 // Each case has a number, whose tens digit is the layer: 1 the books, 2 the recipe, 3 the pins, 4 writes, 5 the stream, 6 a making.
 // `frames` is the number of frames before the call, `index` that of a change in its list.
-#[derive(Clone, Copy, PartialEq, Eq)]
+#[derive(Clone, Copy, PartialEq, Eq, Debug)]
 pub enum Fault {
     // 11: no open transaction has the number
     NotOpen,
@@ -58,6 +58,7 @@ pub enum Fault {
 }
 
 impl Fault {
+    // By hand, since a case that holds its place takes no `as`.
     pub fn number(self) -> u8
         ensures { result ≡ number_of self }
     {

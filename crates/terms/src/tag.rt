@@ -13,10 +13,10 @@ impl Tag {
     pub fn touches(self, other: Tag) -> bool
         ensures { result ≡ touches self other }
     {
-        let keys = match (self.key, other.key) {
-            (Some(key), Some(another)) => key == another,
-            _ => true,
-        };
+        let keys = self
+            .key
+            .zip(other.key)
+            .is_none_or(|(key, another)| key == another);
         self.table == other.table && keys
     }
 }

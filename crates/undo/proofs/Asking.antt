@@ -1,5 +1,5 @@
 -- The answer of the undo store is one that a database gives.
-use Rattle.std.proofs.Common.{◌≡◌, ℕ, ◌≤◌, true, false, cond, ltb, leb, List, [], ◌∷◌, ◌++◌, sym, refl, ap, ◌∙◌, subst, ⊎_elim, arith}
+use Rattle.std.proofs.Common.{◌≡◌, ℕ, ◌≤◌, true, false, cond, ltb, leb, List, [], ◌∷◌, ◌++◌, Some, sym, refl, ap, ◌∙◌, subst, ⊎_elim, arith}
 use Rattle.std.proofs.lemmas.Bool.{cases_Bool, cond-true, cond-false, leb-true, le-leb, ltb-false, and_parts, or_cases, eqb-true, not-true}
 use Rattle.terms.specs.declared.record.Query.{Query}
 use Rattle.terms.specs.Records.{query_tag}
@@ -78,7 +78,7 @@ answers s m q good h =
     }
 
 -- and it is what the pass finds
-pub answer_found : (s : Store) (m : ℕ) (q : Query) → Good s → scan_answer s.latest (found (is_above s.floor) m q (versions s.present s.entries)) ≡ answer_at s m q
+pub answer_found : (s : Store) (m : ℕ) (q : Query) → Good s → scan_answer s.latest (found (Some s.floor) m q (versions s.present s.entries)) ≡ answer_at s m q
 answer_found s m q good =
     let vs = versions s.present s.entries in
     let A : List ℕ → Answer = λ ns. record { reading = read_rows q (rows_at m vs); tag = query_tag q; interval = between s.latest m ns } in

@@ -14,11 +14,14 @@ use line::Line;
 use std::alloc::Global;
 use terms::{Change, Fault, Moment, Query};
 
-// Whether a store may have so many rows.
+// The most rows of a store.
+const MOST: usize = 4096;
+
+// Whether a store may have so many rows: decided here, where no proof is written out.
 fn is_size(rows: usize) -> bool
     ensures { result ≡ nat_le rows 4096 }
 {
-    rows <= 4096
+    rows <= MOST
 }
 
 impl<'a> UndoStore<'a> {
@@ -65,7 +68,8 @@ impl<'a> UndoStore<'a> {
 }
 
 // Its moments are those of `snapshots`, to which four calls hand on in a line each, as the version store's do:
-// a body in the trait could not reach the field without a method more in every database.
+// a body in the trait could not reach the field without a method more in every database. A write is the trait's check and then
+// a commit, which requires what the check has found: no method of the trait may require.
 impl Database for UndoStore<'_> {
     ghost view = { λ s. meaning (store_of s) };
 

@@ -55,7 +55,7 @@ fn count_needed(entries: &[Entry], lowest: Moment) -> usize
     entries.iter().filter(|entry| entry.commit > lowest).count()
 }
 
-// Whether a present record is another than the one named.
+// Whether a present record is another than the one named: what stays is decided here, where no proof is written out.
 fn is_other(p: Present, id: RecordId) -> bool
     ensures { result ≡ other_than id p }
 {
@@ -98,6 +98,7 @@ impl Ledger<'_> {
         ensures len { self.new.line.len ≡ self.old.line.len + 1 }
         ensures size { self.new.line.size ≡ self.old.line.size }
     {
+        // there is room, so it is taken
         let _ = self.line.push(self.journal, entry);
     }
 

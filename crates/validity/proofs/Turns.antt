@@ -49,14 +49,14 @@ end_push m t ns =
     (λ e. let f : ltb m t ≡ true = grind (arith, nat_tests) in rw f (smallest_push (filter (λ n. ltb m n) ns) t ∙ sym (cond-false (leb t m) _ _ e)))
     (cases_Bool (leb t m))
 
-same_scan : (q : Query) (m : ℕ) (r s : Reading) (a b : ℕ) (e f : Option ℕ) → r ≡ s → a ≡ b → e ≡ f → ◌≡◌ {A = Scan} (record { query = q; moment = m; reading = r; first = a; end = e }) (record { query = q; moment = m; reading = s; first = b; end = f })
-same_scan q m r s a b e f x y z =
-    let made : Reading → ℕ → Option ℕ → Scan = λ reading first end. record { query = q; moment = m; reading = reading; first = first; end = end } in
+same_scan : (o : Option ℕ) (q : Query) (m : ℕ) (r s : Reading) (a b : ℕ) (e f : Option ℕ) → r ≡ s → a ≡ b → e ≡ f → ◌≡◌ {A = Scan} (record { query = q; moment = m; floor = o; reading = r; first = a; end = e }) (record { query = q; moment = m; floor = o; reading = s; first = b; end = f })
+same_scan o q m r s a b e f x y z =
+    let made : Reading → ℕ → Option ℕ → Scan = λ reading first end. record { query = q; moment = m; floor = o; reading = reading; first = first; end = end } in
     ap (λ k. made k a e) x ∙ ap (λ k. made s k e) y ∙ ap (made s b) z
 
 -- one more turn
-pub turn_push : (m : ℕ) (q : Query) (rows : List Row) (ns : List ℕ) (t : ℕ) → turned_by t (summary m q rows ns) ≡ summary m q rows (ns ++ t ∷ [])
-turn_push m q rows ns t = same_scan q m _ _ _ _ _ _ refl (sym (first_push m t ns)) (sym (end_push m t ns))
+pub turn_push : (o : Option ℕ) (m : ℕ) (q : Query) (rows : List Row) (ns : List ℕ) (t : ℕ) → turned_by t (summary o m q rows ns) ≡ summary o m q rows (ns ++ t ∷ [])
+turn_push o m q rows ns t = same_scan o q m _ _ _ _ _ _ refl (sym (first_push m t ns)) (sym (end_push m t ns))
 
 tally_push : (ks : List ℕ) (row : Row) (t st : ℕ) → length ks < 4294967295 → tallied (ks ++ row.id.key ∷ []) ≡ read_more (Tally t st) (tallied ks) row
 tally_push [] row t st few = refl
@@ -74,15 +74,15 @@ matched_push (Tally t st) rows row few =
     ap tallied (map-append (λ row. row.id.key) rows (row ∷ [])) ∙ tally_push (map (λ row. row.id.key) rows) row t st (omega arith)
 
 -- one more record that the query reads, and one that it does not read
-pub read_push : (m : ℕ) (q : Query) (rows : List Row) (ns : List ℕ) (row : Row) → length rows < 4294967295 → matches q row ≡ true → read_by row (summary m q rows ns) ≡ summary m q (rows ++ row ∷ []) ns
-read_push m q rows ns row few is =
+pub read_push : (o : Option ℕ) (m : ℕ) (q : Query) (rows : List Row) (ns : List ℕ) (row : Row) → length rows < 4294967295 → matches q row ≡ true → read_by row (summary o m q rows ns) ≡ summary o m q (rows ++ row ∷ []) ns
+read_push o m q rows ns row few is =
     let a = length-filter (matches q) rows in
     let b = count_by-le-length (matches q) rows in
-    same_scan q m _ _ _ _ _ _ (sym (ap (read_matched q) (kept_push (matches q) rows row ∙ cond-true (matches q row) _ _ is) ∙ matched_push q (filter (matches q) rows) row (omega arith))) refl refl
+    same_scan o q m _ _ _ _ _ _ (sym (ap (read_matched q) (kept_push (matches q) rows row ∙ cond-true (matches q row) _ _ is) ∙ matched_push q (filter (matches q) rows) row (omega arith))) refl refl
 
-pub pass_push : (m : ℕ) (q : Query) (rows : List Row) (ns : List ℕ) (row : Row) → matches q row ≡ false → summary m q rows ns ≡ summary m q (rows ++ row ∷ []) ns
-pass_push m q rows ns row is =
-    same_scan q m _ _ _ _ _ _ (sym (ap (read_matched q) (kept_push (matches q) rows row ∙ cond-false (matches q row) _ _ is))) refl refl
+pub pass_push : (o : Option ℕ) (m : ℕ) (q : Query) (rows : List Row) (ns : List ℕ) (row : Row) → matches q row ≡ false → summary o m q rows ns ≡ summary o m q (rows ++ row ∷ []) ns
+pass_push o m q rows ns row is =
+    same_scan o q m _ _ _ _ _ _ (sym (ap (read_matched q) (kept_push (matches q) rows row ∙ cond-false (matches q row) _ _ is))) refl refl
 
 -- the greatest up to m is at most m, and at least each of them
 pub first_upto : (m : ℕ) (ns : List ℕ) → first_of m ns ≤ m

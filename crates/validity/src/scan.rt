@@ -1,6 +1,6 @@
 // One pass over versions, which answers a query at a moment.
-ghost use Rattle.std.specs.Prelude.{◌≡◌, true, []};
-ghost use Rattle.validity.specs.Scans.{summary, turned_by, read_more, read_by, scanned, scanned_all, scan_answer};
+ghost use Rattle.std.specs.Prelude.{◌≡◌, []};
+ghost use Rattle.validity.specs.Scans.{counts, summary, turned_by, read_more, read_by, scanned, scanned_all, scan_answer};
 
 use crate::version::Version;
 use database::Answer;
@@ -11,11 +11,13 @@ use terms::{Interval, Moment, Query, Reading, Row};
 // The reading, and the made and replaced moments next to the moment asked: the greatest up to it, and the smallest above it.
 #[derive(Clone, Copy)]
 pub struct Scan {
-    query: Query,
-    moment: Moment,
-    reading: Reading,
-    first: Moment,
-    end: Option<Moment>,
+    pub query: Query,
+    pub moment: Moment,
+    // made moments up to here are not told; where there is no floor, all are
+    pub floor: Option<Moment>,
+    pub reading: Reading,
+    pub first: Moment,
+    pub end: Option<Moment>,
 }
 
 // The reading with one more record that the query reads.
@@ -24,21 +26,21 @@ fn read_more(query: Query, reading: Reading, row: Row) -> Reading
 {
     match query {
         Query::Get { .. } => reading.or(reading_of(Some(row.value))),
-        Query::Tally { .. } => match reading {
-            Some((count, least)) => Some((count.saturating_add(1), least.min(row.id.key))),
-            None => Some((1, row.id.key)),
-        },
+        Query::Tally { .. } => Some(reading.map_or((1, row.id.key), |(count, least)| {
+            (count.saturating_add(1), least.min(row.id.key))
+        })),
     }
 }
 
 impl Scan {
     // Nothing has been read yet.
-    pub fn new(moment: Moment, query: Query) -> Scan
-        ensures { result ≡ summary moment query [] [] }
+    pub fn new(floor: Option<Moment>, moment: Moment, query: Query) -> Scan
+        ensures { result ≡ summary floor moment query [] [] }
     {
         Scan {
             query,
             moment,
+            floor,
             reading: None,
             first: 0,
             end: None,
@@ -71,15 +73,22 @@ impl Scan {
         }
     }
 
-    // The scan with one more version, whose made moment counts where that is told.
-    pub fn with(self, version: Version, told: bool) -> Scan
-        ensures { result ≡ scanned told version self }
+    // Whether the made moment of a version counts.
+    fn is_told(self, version: Version) -> bool
+        ensures { result ≡ counts self.floor version }
+    {
+        self.floor.is_none_or(|floor| floor < version.made)
+    }
+
+    // The scan with one more version.
+    pub fn with(self, version: Version) -> Scan
+        ensures { result ≡ scanned version self }
     {
         if !matches_row(self.query, version.row) {
             return self;
         }
         let mut scan = self;
-        if told {
+        if self.is_told(version) {
             scan = scan.turned(version.made);
         }
         if let Some(replaced) = version.replaced {
@@ -91,13 +100,13 @@ impl Scan {
         scan
     }
 
-    // The scan with some more versions, whose made moments all count.
+    // The scan with some more versions. A `for`, and no fold: the search does not see through a pass in a fold's closure.
     pub fn with_all(self, versions: &[Version]) -> Scan
-        ensures { result ≡ scanned_all (λ _. true) versions.now self }
+        ensures { result ≡ scanned_all versions.now self }
     {
         let mut scan = self;
         for version in versions {
-            scan = scan.with(*version, true);
+            scan = scan.with(*version);
         }
         scan
     }

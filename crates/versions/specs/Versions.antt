@@ -12,6 +12,7 @@ use Rattle.database.specs.Rows.{holding}
 use Rattle.validity.specs.declared.version.Version.{Version}
 use Rattle.validity.specs.Turns.{between}
 use Rattle.validity.specs.Versions.{visible, rows_at, turns_among}
+use Rattle.validity.specs.Scans.{counts}
 
 -- the state of all records at a moment
 abbrev pub state_at : List Version → ℕ → Records
@@ -21,13 +22,9 @@ state_at versions moment = holding (rows_at moment versions)
 abbrev pub needed : ℕ → List ℕ → Version → Bool
 needed latest pins version = list_any (λ moment. visible moment version) (latest ∷ pins)
 
--- the made moment of every kept version counts
-abbrev pub counted : Version → Bool
-counted version = true
-
--- the made and replaced moments of the versions that match a query
+-- the made and replaced moments of the versions that match a query; every made moment counts
 abbrev pub turns_of : Query → List Version → List ℕ
-turns_of query versions = turns_among counted query versions
+turns_of query versions = turns_among (counts None) query versions
 
 -- for how long a query's reading at a moment is right
 abbrev pub validity : ℕ → ℕ → Query → List Version → Interval

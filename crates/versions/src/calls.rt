@@ -12,12 +12,15 @@ use database::{Answer, Database};
 use std::alloc::Global;
 use terms::{Change, Fault, Moment, Query};
 
+// The most places of a store.
+const MOST: usize = 4096;
+
 impl VersionStore {
     // A store with this many places, empty at its first moment.
     pub fn new(heap: Global, places: usize, first: Moment) -> Result<VersionStore, Fault>
         ensures { MatchResult result (λ s. (in_range places first ≡ true) × (store_of s ≡ empty_at places first)) (λ fault. Refused places first fault) }
     {
-        if places == 0 || places > 4096 {
+        if places == 0 || places > MOST {
             return Err(Fault::OutOfRange);
         }
         let snapshots = Snapshots::new(heap, first)?;
@@ -43,7 +46,8 @@ impl VersionStore {
 }
 
 // Its moments are those of `snapshots`, to which four calls hand on in a line each, as the undo store's do:
-// a body in the trait could not reach the field without a method more in every database.
+// a body in the trait could not reach the field without a method more in every database. A write is the trait's check and then
+// a commit, which requires what the check has found: no method of the trait may require.
 impl Database for VersionStore {
     ghost view = { λ s. meaning (store_of s) };
 

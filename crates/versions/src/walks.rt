@@ -3,7 +3,7 @@ ghost use Rattle.std.specs.Prelude.{◌≡◌, ◌+◌, ◌<◌, ◌≤◌, leng
 ghost use Rattle.std.specs.List.{list_any};
 ghost use Rattle.validity.specs.Versions.{visible};
 ghost use Rattle.validity.specs.Scans.{found};
-ghost use Rattle.versions.specs.Versions.{counted, needed, retired, changed_by, changed_by_all};
+ghost use Rattle.versions.specs.Versions.{needed, retired, changed_by, changed_by_all};
 
 use database::snapshots::Snapshots;
 use terms::{Change, Moment, Query, RecordId, Row};
@@ -92,7 +92,7 @@ pub(crate) fn change_all(versions: &mut Vec<Version>, moment: Moment, changes: &
 // What the versions tell of a query at a moment, in one pass.
 pub(crate) fn scan_all(versions: &[Version], moment: Moment, query: Query) -> Scan
     requires { length versions.now < 4294967295 }
-    ensures { result ≡ found counted moment query versions.now }
+    ensures { result ≡ found None moment query versions.now }
 {
-    Scan::new(moment, query).with_all(versions)
+    Scan::new(None, moment, query).with_all(versions)
 }

@@ -3,12 +3,12 @@ ghost use Rattle.std.specs.Prelude.{◌≡◌, ℕ, ◌+◌, min, Bool, true, co
 ghost use Rattle.terms.specs.Moments.{highest, is_moment};
 ghost use Rattle.terms.specs.declared.fault.Fault.TheVariants.{NoPin, OutOfRange, OutOfMemory};
 ghost use Rattle.std.specs.List.{list_all};
-ghost use Rattle.database.specs.Lists.{among, least, added, without};
+ghost use Rattle.database.specs.Lists.{among, can_add, least, added, without};
 
 use super::Snapshots;
 use crate::pins::Pins;
 use std::alloc::Global;
-use terms::moment::is_moment;
+use terms::moment::{is_moment, next};
 use terms::{Fault, HIGHEST, Moment};
 
 fn lowest_of(latest: Moment, pins: &[Moment]) -> Moment
@@ -21,7 +21,7 @@ fn lowest_of(latest: Moment, pins: &[Moment]) -> Moment
 fn after(latest: Moment) -> Moment
     ensures { result ≡ min (latest + 1) highest }
 {
-    latest.saturating_add(1).min(HIGHEST)
+    next(latest).unwrap_or(HIGHEST)
 }
 
 // That the latest moment stays is said of each call that leaves it: it relates two moments of the value, and no field can say it.
@@ -57,7 +57,7 @@ impl Snapshots {
 
     // Pins the latest moment, and answers it; 31 if 32 others are pinned.
     pub fn pin(&mut self) -> Result<Moment, Fault>
-        ensures can { is_ok result ≡ (among self.old.latest self.old.pins.moments.items || nat_lt (length self.old.pins.moments.items) 32) }
+        ensures can { is_ok result ≡ can_add self.old.latest self.old.pins.moments.items }
         ensures cases { MatchResult result (λ moment. (moment ≡ self.old.latest) × (self.new.pins.moments.items ≡ added self.old.latest self.old.pins.moments.items)) (λ fault. (fault ≡ NoPin 0) × (self.new ≡ self.old)) }
         ensures latest { self.new.latest ≡ self.old.latest }
     {

@@ -5,6 +5,7 @@ ghost use Rattle.line.specs.Rings.{place_of, counted, place_in, waiting, Made, a
 
 use super::{Line, Refusal};
 
+// That the size stays is said at each call that changes the line: it relates two moments of it, and no field can say it.
 impl Line {
     // An empty line of a given size, which is not 0.
     pub fn new(size: usize) -> Option<Line>
