@@ -20,7 +20,6 @@ LINES = {
         (r"^\s*(Refused|Failed|Absent|Missing)\b", "a case of an enum of our own in place of Err or None"),
         (r"None => None,|Err\(_\) => Err\(|Some\((\w+)\) => Some\(\1\),|Ok\((\w+)\) => Ok\(\2\),|return Err\(fault\)|return Some\(fault\)",
          "a case handed on by hand"),
-        (r"let (Ok|Some)\(.*\) = .* else \{$", "a case handed on by hand"),
         (r"^\s*None => \w+\(None\)|^\s*None => (0|true|false|turn),", "a default by hand"),
     ],
     3: [(r"for \w+ in 0(usize)?\.\.", "a loop that counts")],
@@ -66,6 +65,15 @@ def by_line(top, point):
                 if re.search(pattern, text):
                     yield "%s:%d: %s: %s" % (path[len(top) + 1:], number, what, text.strip())
                     break
+
+
+def handed_on(top):
+    """A case that a `let ... else` hands on as it is: Err, None or a refusal."""
+    for path in sources(top):
+        lines = list(code(path))
+        for (number, text), (_, then) in zip(lines, lines[1:]):
+            if re.search(r"let (Ok|Some)\(.*\) = .* else \{$", text) and re.match(r"\s*return (Err\(|None|false)", then):
+                yield "%s:%d: a case handed on by hand: %s" % (path[len(top) + 1:], number, text.strip())
 
 
 def functions(top):
@@ -162,6 +170,7 @@ def main():
     args = [a for a in sys.argv[1:] if a != "--counts"]
     top = args[0].rstrip("/") if args else "."
     found = {p: list(by_line(top, p)) for p in LINES}
+    found[1] += handed_on(top)
     found[2] = list(twins(top))
     found[5] = list(facts(top))
     found[6] += searches(top)

@@ -1,5 +1,5 @@
 -- What a database means, and what each of its calls does to that.
-use Rattle.std.specs.Prelude.{◌≡◌, ℕ, ◌+◌, ◌≤◌, Bool, true, false, not, ◌&&◌, ◌||◌, List, [], length, Some, None, Ok, Err, Result, ◌==◌, nat_lt}
+use Rattle.std.specs.Prelude.{◌≡◌, ℕ, ◌+◌, ◌≤◌, Bool, true, false, not, ◌&&◌, ◌||◌, List, [], length, Some, None, Ok, Err, Result, ◌==◌}
 use Rattle.terms.specs.declared.record.Query.{Query}
 use Rattle.terms.specs.declared.record.Change.{Change}
 use Rattle.terms.specs.declared.fault.Fault.{Fault}

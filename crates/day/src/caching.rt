@@ -1,5 +1,5 @@
 // What a cache keeps of a day.
-ghost use Rattle.std.specs.Prelude.{◌≡◌};
+ghost use Rattle.std.specs.Prelude.{◌≡◌, Some};
 
 use crate::shown::Shown;
 use cache::{Cache, Key, LookUp, Offer};
@@ -29,28 +29,15 @@ fn tag(table: u8, key: Option<u32>) -> Tag
     Tag { table, key }
 }
 
-// What an offer is made of stands in one line of the call.
-fn tell_insert<C: Cache>(
-    rt: &impl Print,
-    cache: &mut C,
-    key: Key,
-    reading: Reading,
-    interval: Interval,
-    tags: &[Tag],
-) -> io::Result<()> {
-    cache.insert(Offer {
-        key,
-        reading,
-        interval,
-        tags,
-    });
+fn tell_insert<C: Cache>(rt: &impl Print, cache: &mut C, offer: Offer<'_>) -> io::Result<()> {
+    cache.insert(offer);
     print!(rt;
         "in: {} is {}, {}",
-        Shown(key),
-        Shown(reading),
-        Shown(interval)
+        Shown(offer.key),
+        Shown(offer.reading),
+        Shown(offer.interval)
     )?;
-    for tag in tags {
+    for tag in offer.tags {
         print!(rt; ", tag {}", Shown(*tag))?;
     }
     println!(rt; "")
@@ -83,31 +70,35 @@ fn tell_close<C: Cache>(rt: &impl Print, cache: &mut C, tag: Tag, moment: u64) -
 
 // An open entry counts up to the last delivered moment, and the newest listed moment decides.
 fn tell_look_ups<C: Cache>(rt: &impl Print, cache: &mut C) -> io::Result<()> {
-    tell_insert(
-        rt,
-        cache,
-        COUNTS,
-        Some((1, 0)),
-        Interval::ended(11, 12),
-        &[],
-    )?;
-    tell_insert(
-        rt,
-        cache,
-        COUNTS,
-        Some((1, 0)),
-        Interval::open(13, 13),
-        &[tag(0, None)],
-    )?;
-    tell_insert(rt, cache, CLAIM, Some((1, 5)), Interval::ended(12, 13), &[])?;
-    tell_insert(
-        rt,
-        cache,
-        LOST,
-        None,
-        Interval::open(0, 13),
-        &[tag(1, Some(901))],
-    )?;
+    let offers = [
+        Offer {
+            key: COUNTS,
+            reading: Some((1, 0)),
+            interval: Interval::ended(11, 12),
+            tags: &[],
+        },
+        Offer {
+            key: COUNTS,
+            reading: Some((1, 0)),
+            interval: Interval::open(13, 13),
+            tags: &[tag(0, None)],
+        },
+        Offer {
+            key: CLAIM,
+            reading: Some((1, 5)),
+            interval: Interval::ended(12, 13),
+            tags: &[],
+        },
+        Offer {
+            key: LOST,
+            reading: None,
+            interval: Interval::open(0, 13),
+            tags: &[tag(1, Some(901))],
+        },
+    ];
+    for offer in offers {
+        tell_insert(rt, cache, offer)?;
+    }
     tell_look_up(rt, cache, COUNTS, &[11, 13], 12)?;
     tell_look_up(rt, cache, COUNTS, &[11, 13], 13)?;
     tell_look_up(rt, cache, COUNTS, &[14, 13, 11], 13)?;
@@ -133,14 +124,13 @@ fn tell_leaving<C: Cache>(rt: &impl Print, cache: &mut C) -> io::Result<()> {
     tell_look_up(rt, cache, COUNTS, &[11], 15)?;
     tell_look_up(rt, cache, CLAIM, &[12], 15)?;
     tell_look_up(rt, cache, COUNTS, &[13], 15)?;
-    tell_insert(
-        rt,
-        cache,
-        COUNTS,
-        Some((0, 1)),
-        Interval::ended(12, 20),
-        &[],
-    )?;
+    let late = Offer {
+        key: COUNTS,
+        reading: Some((0, 1)),
+        interval: Interval::ended(12, 20),
+        tags: &[],
+    };
+    tell_insert(rt, cache, late)?;
     tell_look_up(rt, cache, COUNTS, &[13], 15)?;
     cache.clear();
     println!(rt; "cleared")?;
@@ -163,42 +153,26 @@ fn claim(ticket: u32) -> Key
     }
 }
 
+// The claim sheet of a ticket at 13: the door where its bag lies.
+fn offer(ticket: u32, door: u32) -> Offer<'static>
+    ensures { (result.key ≡ record { sheet = 0; argument = ticket }) × (result.reading ≡ Some (1, door)) }
+{
+    Offer {
+        key: claim(ticket),
+        reading: Some((1, door)),
+        interval: Interval::open(13, 13),
+        tags: &[],
+    }
+}
+
 // The claim sheets of four tickets, the first of which is looked up in between.
 // Where there is no room, the entry that was used longest ago is thrown out.
 pub fn tell_full<C: Cache>(rt: &impl Print, cache: &mut C) -> io::Result<()> {
-    tell_insert(
-        rt,
-        cache,
-        claim(2),
-        Some((1, 12)),
-        Interval::open(13, 13),
-        &[],
-    )?;
-    tell_insert(
-        rt,
-        cache,
-        claim(4),
-        Some((1, 14)),
-        Interval::open(13, 13),
-        &[],
-    )?;
+    tell_insert(rt, cache, offer(2, 12))?;
+    tell_insert(rt, cache, offer(4, 14))?;
     tell_look_up(rt, cache, claim(2), &[13], 13)?;
-    tell_insert(
-        rt,
-        cache,
-        claim(5),
-        Some((1, 15)),
-        Interval::open(13, 13),
-        &[],
-    )?;
-    tell_insert(
-        rt,
-        cache,
-        claim(6),
-        Some((1, 16)),
-        Interval::open(13, 13),
-        &[],
-    )?;
+    tell_insert(rt, cache, offer(5, 15))?;
+    tell_insert(rt, cache, offer(6, 16))?;
     for ticket in [2, 4, 5, 6] {
         tell_look_up(rt, cache, claim(ticket), &[13], 13)?;
     }

@@ -1,4 +1,5 @@
-// How records, changes, queries, readings, intervals, tags, keys and faults are written.
+// How records, changes, queries, readings, intervals, tags, keys and faults are written. These are the words of one program
+// (a door, a ticket), so they stand here and not in the crates of the types, and a trait of another crate needs a type of this one.
 use cache::{Entry, Key};
 use database::Answer;
 use std::fmt;

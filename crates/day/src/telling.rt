@@ -1,4 +1,5 @@
-// One line, or a few, for each call of a database.
+// One line, or a few, for each call of a database. What prints and the store stand before it in each: a struct of the two
+// would say no more, and the calls that follow each other would lend it one by one.
 ghost use Rattle.std.specs.Prelude.{◌≡◌};
 ghost use Rattle.terms.specs.declared.record.Change.TheVariants.{Set};
 ghost use Rattle.terms.specs.declared.record.Query.TheVariants.{Tally};
@@ -9,9 +10,9 @@ use database::agree::agree;
 use std::io;
 use terms::{Change, Fault, Moment, Query, Reading, RecordId, Value};
 
-pub const DOORS: u8 = 0;
+const DOORS: u8 = 0;
 
-pub const TICKETS: u8 = 1;
+const TICKETS: u8 = 1;
 
 pub fn door(key: u32) -> RecordId
     ensures { result ≡ record { table = 0; key = key } }

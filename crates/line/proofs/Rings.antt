@@ -1,5 +1,5 @@
 -- Laws of the elements that wait in a line.
-use Rattle.std.proofs.Common.{◌≡◌, ℕ, zero, suc, ◌+◌, ◌-◌, ◌<◌, ◌≤◌, min, ◌≢◌, List, [], ◌∷◌, ◌++◌, length, get_or, take, drop, set, Some, None, Option, sym, refl, ap, ◌∙◌, ⊎_elim, arith, length-append, length-drop, length-set, length-take}
+use Rattle.std.proofs.Common.{◌≡◌, ℕ, ◌+◌, ◌-◌, ◌<◌, ◌≤◌, min, ◌≢◌, List, [], ◌∷◌, ◌++◌, length, get_or, take, drop, set, Some, None, Option, sym, refl, ap, ◌∙◌, ⊎_elim, arith, length-append, length-drop, length-set, length-take}
 use Rattle.std.specs.List.{slice_get}
 use Rattle.std.proofs.lemmas.List.{get_or-take, get_or-drop, get_or_append_left, get_or-append_right, get_or-set_same, get_or-set_other, length-take-le, length_push, get_or_push, same_lists, nil_from_length, drop_all}
 use Rattle.std.proofs.lemmas.Option.{slice_get-get_or, slice_get_past}
@@ -232,13 +232,7 @@ module _ {X : Type 0} where
         size = size;
       }
 
-  -- walks by `get`, over the elements that wait
-
-  -- what the i-th is, by the list
-  pub got : (xs : List X) (i : ℕ) (x : X) → Some x ≡ slice_get xs i → (d : X) → x ≡ get_or xs i d
-  got [] i x is d = let z : ◌≡◌ {A = ℕ} 0 1 = cc in absurd (omega arith)
-  got (y ∷ ys) zero x is d = cc
-  got (y ∷ ys) (suc i) x is d = got ys i x is d
+  -- what a walk that reads the i-th that waits may take from it
 
   pub got_within : (xs : List X) (i : ℕ) (x : X) → Some x ≡ slice_get xs i → i < length xs
   got_within xs i x is =

@@ -1,8 +1,7 @@
 // Runs of a node on examples.
 use crate::node::Recency;
 use cache::{Cache, Entry, Key, LookUp, Offer};
-use std::test::Fail;
-use terms::{HIGHEST, Interval, Moment, Tag};
+use terms::{Fault, HIGHEST, Interval, Moment, Tag};
 
 const KEY: Key = Key {
     sheet: 0,
@@ -42,11 +41,9 @@ fn number(found: Option<Entry>) -> u32 {
 }
 
 // Whether an insert into an empty node is found again at the moment.
-fn keeps(sheet: u8, interval: Interval, tags: &[Tag], moment: Moment) -> bool {
+fn keeps(sheet: u8, interval: Interval, tags: &[Tag], moment: Moment) -> Result<bool, Fault> {
     let mut table = [Entry::blank(); 2];
-    let Ok(mut node) = Recency::new(&mut table) else {
-        return false;
-    };
+    let mut node = Recency::new(&mut table)?;
     let key = Key { sheet, argument: 5 };
     node.insert(Offer {
         key,
@@ -59,13 +56,13 @@ fn keeps(sheet: u8, interval: Interval, tags: &[Tag], moment: Moment) -> bool {
         moments: &[moment],
         delivered: HIGHEST,
     });
-    number(found) == 7
+    Ok(number(found) == 7)
 }
 
 #[test]
-fn looks_up(rt: HostRuntime) -> Result<(), Fail> {
+fn looks_up(rt: HostRuntime) -> Result<(), Fault> {
     let mut table = [Entry::blank(); 4];
-    let mut node = Recency::new(&mut table).map_err(|_| Fail::new("a size that was refused"))?;
+    let mut node = Recency::new(&mut table)?;
     node.insert(offer(1, Interval::ended(11, 12), &[]));
     node.insert(offer(2, Interval::open(13, 13), &[tag(5)]));
     // two moments, the last delivered, and the number that is found
@@ -93,7 +90,7 @@ fn looks_up(rt: HostRuntime) -> Result<(), Fail> {
 }
 
 #[test]
-fn inserts(rt: HostRuntime) {
+fn inserts(rt: HostRuntime) -> Result<(), Fault> {
     let tags = [
         tag(0),
         tag(1),
@@ -126,17 +123,18 @@ fn inserts(rt: HostRuntime) {
     for (sheet, interval, count, moment, wanted) in rows {
         let some: usize = count;
         assert_eq!(rt;
-            keeps(sheet, interval, &tags[0..some.min(9)], moment),
+            keeps(sheet, interval, &tags[0..some.min(9)], moment)?,
             wanted
         );
     }
-    assert!(rt; !keeps(0, Interval::open(3, 3), &[tag(1), tag(2), tag(1)], 3));
+    assert!(rt; !keeps(0, Interval::open(3, 3), &[tag(1), tag(2), tag(1)], 3)?);
+    Ok(())
 }
 
 #[test]
-fn throws_out(rt: HostRuntime) -> Result<(), Fail> {
+fn throws_out(rt: HostRuntime) -> Result<(), Fault> {
     let mut table = [Entry::blank(); 2];
-    let mut node = Recency::new(&mut table).map_err(|_| Fail::new("a size that was refused"))?;
+    let mut node = Recency::new(&mut table)?;
     // the third throws the first out; the fourth takes the place of the third
     for (number, first, end) in [(1, 1, 2), (2, 2, 3), (3, 3, 4), (4, 3, 5)] {
         node.insert(offer(number, Interval::ended(first, end), &[]));

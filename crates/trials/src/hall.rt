@@ -26,7 +26,7 @@ pub fn tally(table: u8, state: u8) -> Query {
     Query::Tally { table, state }
 }
 
-// The number and place of a refusal, or 0 and 0.
+// The number and place of a refusal, or 0 and 0: the tests keep their values, and a case table names refusals by number.
 pub fn fault_of<T: Drop>(res: Result<T, Fault>) -> (u8, usize) {
     match res {
         Ok(_) => (0, 0),
@@ -34,7 +34,7 @@ pub fn fault_of<T: Drop>(res: Result<T, Fault>) -> (u8, usize) {
     }
 }
 
-// A reading, its first moment, and its end or its through.
+// A reading, its first moment, and its end or its through; a table of cases says it in one line, as it did before.
 pub type Read = (Reading, Moment, (&'static str, u64));
 
 pub fn read_of(res: Result<Answer, Fault>) -> Read {

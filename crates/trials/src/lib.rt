@@ -4,6 +4,8 @@
 #[cfg(test)]
 mod hall;
 #[cfg(test)]
+mod moments;
+#[cfg(test)]
 mod odd;
 #[cfg(test)]
 mod over_undo;

@@ -4,18 +4,9 @@ use crate::sheets::{boards, claims};
 use crate::stores::{refuses, refuses_at_the_end, refuses_pins, tallies, tells_intervals};
 use database::Database;
 use database::agree::agree;
-use std::test::Fail;
-use terms::{HIGHEST, Moment};
+use terms::{Fault, HIGHEST};
 use undo::{Entry, UndoStore};
 use versions::VersionStore;
-
-fn made<'a>(
-    rt: &HostRuntime,
-    journal: &'a mut [Entry],
-    first: Moment,
-) -> Result<UndoStore<'a>, Fail> {
-    UndoStore::new(rt.alloc(), journal, first).map_err(|_| Fail::new("a store that was refused"))
-}
 
 #[test]
 fn undo_sizes(rt: HostRuntime) {
@@ -37,22 +28,22 @@ fn undo_sizes(rt: HostRuntime) {
 }
 
 #[test]
-fn undo_faults(rt: HostRuntime) -> Result<(), Fail> {
+fn undo_faults(rt: HostRuntime) -> Result<(), Fault> {
     let mut six = [Entry::default(); 6];
     let mut last = [Entry::default(); 1];
     let mut one = [Entry::default(); 1];
-    refuses(&rt, &mut made(&rt, &mut six, 10)?);
-    refuses_at_the_end(&rt, &mut made(&rt, &mut last, HIGHEST)?);
-    refuses_pins(&rt, &mut made(&rt, &mut one, 10)?);
+    refuses(&rt, &mut UndoStore::new(rt.alloc(), &mut six, 10)?);
+    refuses_at_the_end(&rt, &mut UndoStore::new(rt.alloc(), &mut last, HIGHEST)?);
+    refuses_pins(&rt, &mut UndoStore::new(rt.alloc(), &mut one, 10)?);
     Ok(())
 }
 
 #[test]
-fn undo_intervals(rt: HostRuntime) -> Result<(), Fail> {
+fn undo_intervals(rt: HostRuntime) -> Result<(), Fault> {
     let mut six = [Entry::default(); 6];
     let mut more = [Entry::default(); 6];
-    tells_intervals(&rt, &mut made(&rt, &mut six, 10)?);
-    let mut store = made(&rt, &mut more, 10)?;
+    tells_intervals(&rt, &mut UndoStore::new(rt.alloc(), &mut six, 10)?);
+    let mut store = UndoStore::new(rt.alloc(), &mut more, 10)?;
     tallies(&rt, &mut store);
     // made at 11, which no kept entry tells at 12
     assert_eq!(rt;
@@ -64,9 +55,9 @@ fn undo_intervals(rt: HostRuntime) -> Result<(), Fail> {
 
 // An entry is needed while its commit is above the lowest held moment; an unpin between others frees none.
 #[test]
-fn entries_that_are_let_go(rt: HostRuntime) -> Result<(), Fail> {
+fn entries_that_are_let_go(rt: HostRuntime) -> Result<(), Fault> {
     let mut six = [Entry::default(); 6];
-    let mut store = made(&rt, &mut six, 10)?;
+    let mut store = UndoStore::new(rt.alloc(), &mut six, 10)?;
     spend_day(&rt, &mut store);
     assert_eq!(rt; store.free(), 1, "five of six entries are needed");
     store.unpin(11);
@@ -90,12 +81,10 @@ fn entries_that_are_let_go(rt: HostRuntime) -> Result<(), Fail> {
 }
 
 #[test]
-fn stores_agree(rt: HostRuntime) -> Result<(), Fail> {
+fn stores_agree(rt: HostRuntime) -> Result<(), Fault> {
     let mut six = [Entry::default(); 6];
-    let mut undo = made(&rt, &mut six, 10)?;
-    let mut versions = VersionStore::new(rt.alloc(), 6, 10).map_err(|_| Fail::new(
-        "a store that was refused",
-    ))?;
+    let mut undo = UndoStore::new(rt.alloc(), &mut six, 10)?;
+    let mut versions = VersionStore::new(rt.alloc(), 6, 10)?;
     spend_day(&rt, &mut undo);
     spend_day(&rt, &mut versions);
     for moment in 10..14u64 {

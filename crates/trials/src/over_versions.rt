@@ -3,13 +3,8 @@ use crate::hall::{delete, fault_of, get, read_of, set, spend_day};
 use crate::sheets::{boards, claims, claims_of_others, odd_recipes, unknown_before_deep};
 use crate::stores::{refuses, refuses_at_the_end, refuses_pins, tallies, tells_intervals};
 use database::Database;
-use std::test::Fail;
-use terms::{HIGHEST, Moment};
+use terms::{Fault, HIGHEST};
 use versions::VersionStore;
-
-fn made(rt: &HostRuntime, places: usize, first: Moment) -> Result<VersionStore, Fail> {
-    VersionStore::new(rt.alloc(), places, first).map_err(|_| Fail::new("a store that was refused"))
-}
 
 #[test]
 fn sizes_and_first_moments(rt: HostRuntime) {
@@ -31,17 +26,17 @@ fn sizes_and_first_moments(rt: HostRuntime) {
 }
 
 #[test]
-fn faults(rt: HostRuntime) -> Result<(), Fail> {
-    refuses(&rt, &mut made(&rt, 6, 10)?);
-    refuses_at_the_end(&rt, &mut made(&rt, 1, HIGHEST)?);
-    refuses_pins(&rt, &mut made(&rt, 1, 10)?);
+fn faults(rt: HostRuntime) -> Result<(), Fault> {
+    refuses(&rt, &mut VersionStore::new(rt.alloc(), 6, 10)?);
+    refuses_at_the_end(&rt, &mut VersionStore::new(rt.alloc(), 1, HIGHEST)?);
+    refuses_pins(&rt, &mut VersionStore::new(rt.alloc(), 1, 10)?);
     Ok(())
 }
 
 #[test]
-fn intervals(rt: HostRuntime) -> Result<(), Fail> {
-    tells_intervals(&rt, &mut made(&rt, 6, 10)?);
-    let mut store = made(&rt, 6, 10)?;
+fn intervals(rt: HostRuntime) -> Result<(), Fault> {
+    tells_intervals(&rt, &mut VersionStore::new(rt.alloc(), 6, 10)?);
+    let mut store = VersionStore::new(rt.alloc(), 6, 10)?;
     tallies(&rt, &mut store);
     // made at 11, which the store still tells at 12
     assert_eq!(rt;
@@ -53,8 +48,8 @@ fn intervals(rt: HostRuntime) -> Result<(), Fail> {
 
 // A version that no held moment shows is counted no longer at once, and is let go by the next accepted write.
 #[test]
-fn versions_that_are_let_go(rt: HostRuntime) -> Result<(), Fail> {
-    let mut store = made(&rt, 6, 10)?;
+fn versions_that_are_let_go(rt: HostRuntime) -> Result<(), Fault> {
+    let mut store = VersionStore::new(rt.alloc(), 6, 10)?;
     spend_day(&rt, &mut store);
     assert_eq!(rt; store.free(), 2);
     store.unpin(11);
@@ -76,13 +71,13 @@ fn versions_that_are_let_go(rt: HostRuntime) -> Result<(), Fail> {
 }
 
 #[test]
-fn values_of_sheets(rt: HostRuntime) -> Result<(), Fail> {
-    let mut store = made(&rt, 6, 10)?;
+fn values_of_sheets(rt: HostRuntime) -> Result<(), Fault> {
+    let mut store = VersionStore::new(rt.alloc(), 6, 10)?;
     spend_day(&rt, &mut store);
     claims(&rt, &store);
     boards(&rt, &store);
     odd_recipes(&rt, &store);
     unknown_before_deep(&rt, &store);
-    claims_of_others(&rt, &mut made(&rt, 6, 10)?);
+    claims_of_others(&rt, &mut VersionStore::new(rt.alloc(), 6, 10)?);
     Ok(())
 }

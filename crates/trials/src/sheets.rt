@@ -7,7 +7,7 @@ use recipe::{Ask, Attendant, Board};
 use std::process::Abort;
 use terms::{Fault, Reading};
 
-// A reading, or the number of a refusal.
+// A reading, or the number of a refusal: the tests keep their values.
 fn worth_of(res: Result<Reading, Fault>) -> (Reading, u8) {
     match res {
         Ok(reading) => (reading, 0),

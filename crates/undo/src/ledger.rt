@@ -119,6 +119,7 @@ impl Ledger<'_> {
         }
         change_present(&mut self.present, moment, change);
     }
+
     // All changes, one after the other.
     pub(crate) fn change_all(&mut self, moment: Moment, changes: &[Change])
         requires { Roomy (length changes.now) self.old }
