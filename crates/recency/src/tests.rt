@@ -33,7 +33,7 @@ fn tag(key: u32) -> Tag {
     }
 }
 
-// The number that was put in, or 0 for a miss.
+// The number that was put in, or 0 for a miss: the tests keep their values.
 fn number(found: Option<Entry>) -> u32 {
     found
         .and_then(|entry| entry.reading)
