@@ -48,7 +48,7 @@ impl Scan {
     }
 
     // The scan with one more made or replaced moment.
-    fn turned(self, turn: Moment) -> Scan
+    pub fn turned(self, turn: Moment) -> Scan
         ensures { result ≡ turned_by turn self }
     {
         if turn <= self.moment {
@@ -64,7 +64,7 @@ impl Scan {
     }
 
     // The scan with one more record that the query reads.
-    fn read(self, row: Row) -> Scan
+    pub fn read(self, row: Row) -> Scan
         ensures { result ≡ read_by row self }
     {
         Scan {
