@@ -112,7 +112,7 @@ def twins(top):
     shapes = defaultdict(list)
     for path, name, _, _, body in functions(top):
         shape = re.sub(r"\s+", " ", re.sub(r"\b[0-9_]+\b", "N", body)).strip()
-        if len(shape) > 25 and "/tests" not in path:
+        if len(shape) > 20 and "/tests" not in path:
             shapes[(name, shape)].append("%s: fn %s" % (path, name))
     types = defaultdict(list)
     for path in sources(top):

@@ -33,6 +33,7 @@ pub trait Cache {
 
     // Every open entry with a touching tag and a first moment below `moment` gets the end `moment`.
     // Nothing changes if that is above the number after the highest moment.
+    // Tag and moment are no struct: a message has one moment for many tags.
     fn close(&mut self, tag: Tag, moment: u64)
         ensures closed { Closes (entries self.old) tag moment (entries self.new) }
         ensures sound { Sound (entries self.old) → Sound (entries self.new) };

@@ -92,7 +92,7 @@ impl<'a> Recency<'a> {
         self.len = kept;
     }
 
-    // Makes of each entry what a close makes of it. By index: that is the form set for the walk of a close (DECISIONS).
+    // Makes of each entry what a close makes of it. By index: a rule of this project for the walk of a close (DECISIONS).
     fn close_each(&mut self, tag: Tag, moment: u64)
         ensures order { recent self.new ≡ map (closed tag moment) (recent self.old) }
         ensures size { size_of self.new ≡ size_of self.old }
@@ -102,6 +102,14 @@ impl<'a> Recency<'a> {
         }
     }
 
+    // Those that give way to the new entry leave.
+    fn make_way(&mut self, new: &Entry)
+        ensures order { recent self.new ≡ filter (stays new.now) (recent self.old) }
+        ensures size { size_of self.new ≡ size_of self.old }
+    {
+        self.keep(|old| stays_with(*new, *old));
+    }
+
     // The place of the last entry when one more has come in: the first that is free, or else the last.
     fn next_last(&self) -> usize
         ensures { result ≡ min self.now.len (size_of self.now - 1) }
@@ -109,16 +117,25 @@ impl<'a> Recency<'a> {
         self.len.min(self.table.len() - 1)
     }
 
+    // Puts the new entry first; if the table is full, the last leaves.
+    #[tactic(auto, using(crate::proofs::Shifts::put_first))]
+    fn put_first(&mut self, new: Entry)
+        ensures order { recent self.new ≡ take (size_of self.old) (new ∷ recent self.old) }
+        ensures size { size_of self.new ≡ size_of self.old }
+    {
+        let last = self.next_last();
+        self.table[..=last].rotate_right(1);
+        self.table[0] = new;
+        self.len = last + 1;
+    }
+
     // Puts the new entry first. Those that give way to it leave; if the table is full then, so does the last.
     fn push(&mut self, new: Entry)
         ensures order { recent self.new ≡ take (size_of self.old) (new ∷ filter (stays new) (recent self.old)) }
         ensures size { size_of self.new ≡ size_of self.old }
     {
-        self.keep(|old| stays_with(new, *old));
-        let last = self.next_last();
-        self.table[..=last].rotate_right(1);
-        self.table[0] = new;
-        self.len = last + 1;
+        self.make_way(&new);
+        self.put_first(new);
     }
 }
 

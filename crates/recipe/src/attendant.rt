@@ -33,10 +33,9 @@ fn claim_door(ticket: u32, door: Option<u32>, found: Reading) -> Reading
 fn door_of(ticket: Reading) -> Turn
     ensures { result ≡ door_of ticket }
 {
-    match ticket {
-        Some((_, door)) => get(0, door).then(2, u64::from(door)),
-        None => Turn::done(None),
-    }
+    ticket.map_or(Turn::done(None), |(_, door)| {
+        get(0, door).then(2, u64::from(door))
+    })
 }
 
 // A switch on the stage, and no closure for each step: the rules give a recipe's state as the plain numbers of a point.

@@ -31,6 +31,7 @@ fn tally_turn(point: Point) -> Turn
     if point.stage != 0 {
         return Turn::done(point.last);
     }
+    // a let-else, since a turn is no Option or Result that `?` could end
     let Ok(state) = u8::try_from(point.argument) else {
         return Turn::done(None);
     };

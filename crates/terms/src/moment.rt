@@ -17,6 +17,7 @@ pub fn is_moment(number: u64) -> bool
 pub fn next(moment: Moment) -> Option<Moment>
     ensures { result ≡ next_moment moment }
 {
+    // an `if`, since `then_some` would add at the highest number too
     if moment < HIGHEST {
         Some(moment + 1)
     } else {

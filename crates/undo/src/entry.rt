@@ -19,6 +19,18 @@ pub struct Present {
     pub made: Moment,
 }
 
+// What is held of a present record.
+impl From<Present> for Held {
+    ghost from_gives = { λ present held. held ≡ record { value = present.row.value; made = present.made } };
+
+    fn from(present: Present) -> Held {
+        Held {
+            value: present.row.value,
+            made: present.made,
+        }
+    }
+}
+
 // An entry of the journal: what a record held, if it was present, before a commit changed it.
 #[derive(Clone, Copy, PartialEq, Eq, Default)]
 pub struct Entry {

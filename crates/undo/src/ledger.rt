@@ -32,10 +32,7 @@ fn held_of(present: &[Present], id: RecordId) -> Option<Held>
     ensures { result ≡ held_of id present.now }
 {
     let p = find_present(present, id)?;
-    Some(Held {
-        value: p.row.value,
-        made: p.made,
-    })
+    Some(Held::from(p))
 }
 
 // Whether a change leaves an entry, where this was held of its record.
@@ -72,6 +69,7 @@ fn take_out(present: &mut Vec<Present>, id: RecordId)
 }
 
 // Takes the record out of the present ones, and puts it in again where the change is a set.
+// Moment and change are no struct: a write has one moment for many changes.
 fn change_present(present: &mut Vec<Present>, moment: Moment, change: Change)
     requires { vec_len present.old + 1 ≤ vec_capacity present.old }
     ensures items { present.new.items ≡ present_after moment change present.old.items }

@@ -56,7 +56,7 @@ fn retire(version: Version, moment: Moment, id: RecordId) -> Version
     }
 }
 
-// One change: the present version of its record ends, and a set makes one.
+// One change: the present version of its record ends, and a set makes one. Moment and change are no struct: a write has one for many.
 #[tactic(auto, using(crate::proofs::Maps::map_at, crate::proofs::Maps::map_all))]
 fn change_one(versions: &mut Vec<Version>, moment: Moment, change: Change)
     requires { vec_len versions.old + 1 ≤ vec_capacity versions.old }

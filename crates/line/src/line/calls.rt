@@ -70,11 +70,7 @@ impl Line {
     fn place_in(&self, places: usize, i: usize) -> Option<usize>
         ensures { result ≡ place_in self.now places i }
     {
-        if i < self.counted(places) {
-            Some(self.place_of(i))
-        } else {
-            None
-        }
+        (i < self.counted(places)).then_some(self.place_of(i))
     }
 
     // How many wait in a slice: all that the line counts or, in a slice that is too short, none.
