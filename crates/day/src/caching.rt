@@ -1,5 +1,6 @@
 // What a cache keeps of a day.
-ghost use Rattle.std.specs.Prelude.{◌≡◌, Some};
+ghost use Rattle.std.specs.Prelude.{◌≡◌, [], Some};
+ghost use Rattle.terms.specs.declared.interval.Until.TheVariants.{Open};
 
 use crate::shown::Shown;
 use cache::{Cache, Key, LookUp, Offer};
@@ -155,7 +156,10 @@ fn claim(ticket: u32) -> Key
 
 // The claim sheet of a ticket at 13: the door where its bag lies.
 fn offer(ticket: u32, door: u32) -> Offer<'static>
-    ensures { (result.key ≡ record { sheet = 0; argument = ticket }) × (result.reading ≡ Some (1, door)) }
+    ensures key { result.key ≡ record { sheet = 0; argument = ticket } }
+    ensures reading { result.reading ≡ Some (1, door) }
+    ensures interval { result.interval ≡ record { first = 13; until = Open 13 } }
+    ensures tags { result.tags.now ≡ [] }
 {
     Offer {
         key: claim(ticket),
