@@ -1,5 +1,5 @@
 -- What holds between the calls of a cache is kept by each of them.
-use Rattle.std.proofs.Common.{◌≡◌, ℕ, ◌≤◌, max, true, false, ◌&&◌, eqb, ltb, leb, List, Some, None, Option, sym, refl, ap, ◌∙◌, subst, ⊎_elim, arith}
+use Rattle.std.proofs.Common.{◌≡◌, ℕ, ◌≤◌, max, true, false, ◌&&◌, eqb, ltb, leb, List, [], length, Some, None, Option, sym, refl, ap, ◌∙◌, subst, ⊎_elim, arith}
 use Rattle.std.proofs.lemmas.Bool.{cond_both, and_parts, and_from, both_ways, eqb-true, eq-eqb, leb-true, le-leb, ltb-true, lt-ltb}
 use Rattle.terms.specs.declared.interval.Interval.{Interval}
 use Rattle.terms.specs.declared.interval.Until.{Until}
@@ -11,9 +11,10 @@ use Rattle.cache.specs.declared.entry.Entry.{Entry}
 use Rattle.cache.specs.declared.key.Key.{Key}
 use Rattle.cache.specs.Keys.{is_key}
 use Rattle.cache.specs.Lists.{Same}
-use Rattle.cache.specs.TagSets.{few_tags}
+use Rattle.cache.specs.TagSets.{tags_of, packed, few_tags, new_to}
 use Rattle.cache.specs.Entries.{accepts, accepted, has_moment, covers, known_at, inside, lasts, share_moment, gives_way, is_end, is_open, closes, closed, ended_at, ends_past}
 use Rattle.cache.specs.Calls.{Looks, Only, Inserts, Enters, Closes, Drops, Sound}
+use Rattle.cache.proofs.Packs.{tags_of_packed}
 
 lasts_down : (until : Until) (k m : ℕ) → k ≤ m → lasts until m ≡ true → lasts until k ≡ true
 lasts_down (Ended end) k m le h = let below = ltb-true m end h in lt-ltb k end (omega arith)
@@ -53,10 +54,10 @@ keeps_apart : (new e : Entry) (m : ℕ) → gives_way new e ≡ false → is_key
 keeps_apart new e m stays key h k =
     both_ways (gives_way new e) stays (and_from _ _ key (share_from new.interval e.interval m h k))
 
-pub sound_inserts : {xs ys : List Entry} {new : Entry} → Inserts xs new ys → accepts new.key new.interval new.tags ≡ true → Sound xs → Sound ys
+pub sound_inserts : {xs ys : List Entry} {new : Entry} → Inserts xs new ys → accepts new.key new.interval (tags_of new.tags) ≡ true → Sound xs → Sound ys
 sound_inserts {xs} {ys} {new} ins good sound = record {
   made = λ e h. ⊎_elim
-      (λ is. subst (λ (x : Entry). accepts x.key x.interval x.tags ≡ true) (sym is) good)
+      (λ is. subst (λ (x : Entry). accepts x.key x.interval (tags_of x.tags) ≡ true) (sym is) good)
       (λ was. sound.made e was.0) (ins.old e h);
   apart = λ e f h k key m he hf. ⊎_elim
       (λ is. ⊎_elim
@@ -74,11 +75,18 @@ sound_inserts {xs} {ys} {new} ins good sound = record {
       (ins.old e h);
 }
 
+-- the tags of an accepted entry are those that were given
+pub accepted_good : (key : Key) (interval : Interval) (tags : List Tag) → accepts key interval tags ≡ true → accepts key interval (tags_of (packed tags)) ≡ true
+accepted_good key interval tags h =
+    let few = (and_parts (has_moment interval) (few_tags tags) (and_parts (ltb key.sheet 255) (has_moment interval && few_tags tags) h).1).1 in
+    let short = leb-true (length tags) 8 (and_parts (leb (length tags) 8) (new_to [] tags) few).0 in
+    ap (accepts key interval) (tags_of_packed tags short) ∙ h
+
 pub sound_enters : (xs ys : List Entry) (key : Key) (reading : Reading) (interval : Interval) (tags : List Tag) → Enters xs (accepted key reading interval tags) ys → Sound xs → Sound ys
 sound_enters xs ys key reading interval tags =
-    cond_both (accepts key interval tags) (Some (record { key = key; reading = reading; interval = interval; tags = tags })) None
+    cond_both (accepts key interval tags) (Some (record { key = key; reading = reading; interval = interval; tags = packed tags })) None
     (λ new. Enters xs new ys → Sound xs → Sound ys)
-    (λ good ins sound. sound_inserts ins good sound)
+    (λ good ins sound. sound_inserts ins (accepted_good key interval tags good) sound)
     (λ bad is sound. subst Sound (sym is) sound)
 
 pub closed_key : (tag : Tag) (n : ℕ) (e : Entry) → (closed tag n e).key ≡ e.key
@@ -97,12 +105,12 @@ closed_inside tag n e m =
     and_from _ _ (and_parts (leb e.interval.first m) _ h).0 (open_inside e.interval.until m c.0))
     (λ _ h. h)
 
-pub closed_good : (tag : Tag) (n : ℕ) (e : Entry) → accepts e.key e.interval e.tags ≡ true → accepts (closed tag n e).key (closed tag n e).interval (closed tag n e).tags ≡ true
+pub closed_good : (tag : Tag) (n : ℕ) (e : Entry) → accepts e.key e.interval (tags_of e.tags) ≡ true → accepts (closed tag n e).key (closed tag n e).interval (tags_of (closed tag n e).tags) ≡ true
 closed_good tag n e good =
-    cond_both (closes tag n e) (ended_at n e) e (λ (x : Entry). accepts x.key x.interval x.tags ≡ true)
+    cond_both (closes tag n e) (ended_at n e) e (λ (x : Entry). accepts x.key x.interval (tags_of x.tags) ≡ true)
     (λ yes'.
-    let a = and_parts (ltb e.key.sheet 255) (has_moment e.interval && few_tags e.tags) good in
-    let b = and_parts (has_moment e.interval) (few_tags e.tags) a.1 in
+    let a = and_parts (ltb e.key.sheet 255) (has_moment e.interval && few_tags (tags_of e.tags)) good in
+    let b = and_parts (has_moment e.interval) (few_tags (tags_of e.tags)) a.1 in
     let first = (and_parts (is_moment e.interval.first) (ends_past e.interval.first e.interval.until) b.0).0 in
     let c = and_parts (is_end n) _ yes' in
     let d = and_parts (is_open e.interval.until) _ c.1 in
@@ -114,7 +122,7 @@ pub sound_closes : {xs ys : List Entry} {tag : Tag} {n : ℕ} → Closes xs tag 
 sound_closes {xs} {ys} {tag} {n} closing sound = record {
   made = λ e h.
       let w = closing.only e h in
-      subst (λ (x : Entry). accepts x.key x.interval x.tags ≡ true) (sym w.2) (closed_good tag n w.0 (sound.made w.0 w.1));
+      subst (λ (x : Entry). accepts x.key x.interval (tags_of x.tags) ≡ true) (sym w.2) (closed_good tag n w.0 (sound.made w.0 w.1));
   apart = λ e f h k key m he hf.
       let v = closing.only e h in
       let w = closing.only f k in

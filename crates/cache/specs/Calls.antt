@@ -6,6 +6,7 @@ use Rattle.cache.specs.declared.entry.Entry.{Entry}
 use Rattle.cache.specs.declared.key.Key.{Key}
 use Rattle.cache.specs.Keys.{is_key}
 use Rattle.cache.specs.Lists.{Among}
+use Rattle.cache.specs.TagSets.{tags_of}
 use Rattle.cache.specs.Entries.{accepts, answers, inside, gives_way, closed, ended_by}
 
 -- the newest listed moment that passes the test, or none if none passes
@@ -59,5 +60,5 @@ pub record Drops (before : List Entry) (moment : ℕ) (after : List Entry) : Typ
 -- What holds between calls: each entry could be inserted (a sheet below 255, an interval with a moment,
 -- at most 8 different tags), and two entries of one key never share a moment, open ones having no end.
 pub record Sound (entries : List Entry) : Type 0 where
-  pub made : (e : Entry) → Among e entries → accepts e.key e.interval e.tags ≡ true
+  pub made : (e : Entry) → Among e entries → accepts e.key e.interval (tags_of e.tags) ≡ true
   pub apart : (e f : Entry) → Among e entries → Among f entries → is_key e.key f.key ≡ true → (m : ℕ) → inside e.interval m ≡ true → inside f.interval m ≡ true → e ≡ f

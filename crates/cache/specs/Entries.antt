@@ -10,7 +10,7 @@ use Rattle.cache.specs.declared.call.Offer.{Offer}
 use Rattle.cache.specs.declared.entry.Entry.{Entry}
 use Rattle.cache.specs.declared.key.Key.{Key}
 use Rattle.cache.specs.Keys.{is_key}
-use Rattle.cache.specs.TagSets.{touched, few_tags}
+use Rattle.cache.specs.TagSets.{tags_of, touched, few_tags, packed}
 
 -- an end is the first number outside an interval, so it may be the number after the highest moment
 abbrev pub is_end : ℕ → Bool
@@ -64,7 +64,7 @@ accepts key interval list = nat_lt key.sheet 255 && (has_moment interval && few_
 -- the entry that an insert adds, if it is accepted
 abbrev pub accepted : Key → Reading → Interval → List Tag → Option Entry
 accepted key reading interval list =
-    cond (accepts key interval list) (Some (record { key = key; reading = reading; interval = interval; tags = list })) None
+    cond (accepts key interval list) (Some (record { key = key; reading = reading; interval = interval; tags = packed list })) None
 
 -- the same, of what the insert is given
 abbrev pub offered : Offer → Option Entry
@@ -78,7 +78,7 @@ is_open (Open through) = true
 -- a close at n ends an open entry that began before n and has a tag that touches
 abbrev pub closes : Tag → ℕ → Entry → Bool
 closes tag n entry =
-    is_end n && (is_open entry.interval.until && (nat_lt entry.interval.first n && touched tag entry.tags))
+    is_end n && (is_open entry.interval.until && (nat_lt entry.interval.first n && touched tag (tags_of entry.tags)))
 
 -- the entry with the end n; its tags stay
 abbrev pub ended_at : ℕ → Entry → Entry
@@ -100,4 +100,4 @@ ended_by moment entry = ends_by moment entry.interval.until
 
 -- what may stand in a place of a table that is not used
 abbrev pub blank_entry : Entry
-blank_entry = record { key = record { sheet = 255; argument = 0 }; reading = None; interval = record { first = 0; until = Ended 0 }; tags = [] }
+blank_entry = record { key = record { sheet = 255; argument = 0 }; reading = None; interval = record { first = 0; until = Ended 0 }; tags = packed [] }

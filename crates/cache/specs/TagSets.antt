@@ -1,9 +1,13 @@
--- Sets of at most 8 different tags, each seen as the list of its tags.
-use Rattle.std.specs.Prelude.{ℕ, Bool, true, false, cond, not, ◌&&◌, List, [], ◌∷◌, ◌++◌, length, Some, None, Option, ◌==◌, nat_le, nat_lt}
+-- Sets of at most 8 different tags.
+use Rattle.std.specs.Prelude.{ℕ, ◌-◌, min, Bool, true, false, cond, not, ◌&&◌, List, [], ◌∷◌, ◌++◌, length, take, replicate, Some, None, Option, ◌==◌, nat_le, nat_lt}
 use Rattle.std.specs.List.{list_any}
 use Rattle.terms.specs.declared.tag.Tag.{Tag}
 use Rattle.terms.specs.Tags.{touches}
 use Rattle.cache.specs.declared.tag_set.TagSet.{TagSet}
+
+-- the tags of a set stand in its first places
+abbrev pub tags_of : TagSet → List Tag
+tags_of set = take (min set.count 8) set.tags
 
 -- what stands in the places that are not used
 abbrev pub no_tag : Tag
@@ -37,9 +41,13 @@ new_to seen (tag ∷ rest) = not (has_tag tag seen) && new_to (seen ++ tag ∷ [
 abbrev pub few_tags : List Tag → Bool
 few_tags list = nat_le (length list) 8 && new_to [] list
 
+-- the set of these tags, in their order
+abbrev pub packed : List Tag → TagSet
+packed list = record { tags = list ++ replicate (8 - length list) no_tag; count = length list }
+
 -- the set of these tags, if they are at most 8 and none repeats
 abbrev pub set_of : List Tag → Option TagSet
-set_of list = cond (few_tags list) (Some list) None
+set_of list = cond (few_tags list) (Some (packed list)) None
 
 -- the tags with one more: the same tags if it is there already, and none if it is not there and 8 others are
 abbrev pub with_tag : List Tag → Tag → Option (List Tag)

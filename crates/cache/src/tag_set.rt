@@ -1,8 +1,8 @@
 // Sets of at most 8 different tags.
-ghost use Rattle.std.specs.Prelude.{◌≡◌, ◌≤◌, [], ◌∷◌, ◌++◌, cond, length, nat_lt};
-ghost use Rattle.cache.specs.TagSets.{has_tag, touched, set_of, with_tag};
+ghost use Rattle.std.specs.Prelude.{◌≡◌, ◌≤◌, [], ◌∷◌, ◌++◌, cond, length, Some, None, nat_lt};
+ghost use Rattle.std.specs.Option.{option_map};
+ghost use Rattle.cache.specs.TagSets.{tags_of, packed, has_tag, touched, set_of, with_tag};
 
-use std::marker::Model;
 use terms::Tag;
 
 const NO_TAG: Tag = Tag {
@@ -10,38 +10,19 @@ const NO_TAG: Tag = Tag {
     key: None,
 };
 
-// The tags stand in the first `count` places, and no tag in the others.
+// The tags stand in the first `count` places.
 // An array with its count, and no Vec: an entry is Copy and lies in a lent table, so nothing of it is on the heap.
+// Its list is a definition, `tags_of`, and no `impl Model`: the check would copy no entry then, which holds a set, where a caller
+// passes it by value and uses it again.
 #[derive(Clone, Copy, PartialEq, Eq)]
 pub struct TagSet {
     tags: [Tag; 8],
     count: usize,
 }
 
-// A set is seen as the list of its tags, in the order in which they came.
-impl Model for TagSet {
-    ghost use Rattle.std.specs.Prelude.{◌≡◌, ◌-◌, ◌≤◌, ◌++◌, List, length, take, drop, replicate};
-    ghost use Rattle.terms.specs.declared.tag.Tag.{Tag};
-
-    ghost Value = { List Tag };
-
-    ghost use Rattle.cache.specs.TagSets.{no_tag};
-
-    ghost view = { λ s. take s.count s.tags };
-
-    ghost invariant = { λ s. (length s.tags ≡ 8) × (s.count ≤ 8) × (drop s.count s.tags ≡ replicate (8 - s.count) no_tag) };
-
-    ghost inverse = { λ list. record { tags = list ++ replicate (8 - length list) no_tag; count = length list } };
-
-    ghost use Rattle.std.proofs.Common.{arith, length-take};
-    ghost use Rattle.std.proofs.lemmas.List.{take-append-drop, length-take-le};
-
-    ghost inverse_ok = { λ a h. Prim.grind (arith, take-append-drop, length-take-le, length-take) };
-}
-
 impl TagSet {
     pub fn empty() -> TagSet
-        ensures { result ≡ [] }
+        ensures { result ≡ packed [] }
     {
         TagSet {
             tags: [NO_TAG; 8],
@@ -50,21 +31,26 @@ impl TagSet {
     }
 
     // None if a tag repeats or there are over 8.
+    #[tactic(auto, using(crate::proofs::Packs::repeats, crate::proofs::Packs::all_new))]
     pub fn from_slice(tags: &[Tag]) -> Option<TagSet>
         ensures { result ≡ set_of tags.now }
     {
+        if tags.len() > 8 {
+            return None;
+        }
         let mut set = TagSet::empty();
-        for tag in tags {
+        for (place, tag) in tags.iter().enumerate() {
             if set.contains(*tag) {
                 return None;
             }
-            set = set.pushed(*tag)?;
+            set.tags[place] = *tag;
+            set.count = place + 1;
         }
         Some(set)
     }
 
     pub fn len(self) -> usize
-        ensures value { result ≡ length self }
+        ensures value { result ≡ length (tags_of self) }
         ensures few { result ≤ 8 }
     {
         self.as_slice().len()
@@ -72,29 +58,29 @@ impl TagSet {
 
     // The tags, in the order in which they came.
     pub fn as_slice(&self) -> &[Tag]
-        ensures value { result.now ≡ self.now }
+        ensures value { result.now ≡ tags_of self.now }
         ensures few { length result.now ≤ 8 }
     {
-        &self.tags[..self.count]
+        &self.tags[..self.count.min(8)]
     }
 
     // A star equals a star alone.
     pub fn contains(self, tag: Tag) -> bool
-        ensures { result ≡ has_tag tag self }
+        ensures { result ≡ has_tag tag (tags_of self) }
     {
         self.as_slice().contains(&tag)
     }
 
     // Whether a tag of the set touches the tag.
     pub fn touches(self, tag: Tag) -> bool
-        ensures { result ≡ touched tag self }
+        ensures { result ≡ touched tag (tags_of self) }
     {
         self.as_slice().iter().any(|other| tag.touches(*other))
     }
 
     // The set with the tag in it; none if the tag is not there and 8 others are.
     pub fn with(self, tag: Tag) -> Option<TagSet>
-        ensures { result ≡ with_tag self tag }
+        ensures { option_map tags_of result ≡ with_tag (tags_of self) tag }
     {
         if self.contains(tag) {
             Some(self)
@@ -104,14 +90,16 @@ impl TagSet {
     }
 
     // The tags with one more behind them; none if there are 8.
+    #[tactic(auto, using(crate::proofs::Packs::pushed_more))]
     fn pushed(mut self, tag: Tag) -> Option<TagSet>
-        ensures { result ≡ cond (nat_lt (length self) 8) (Some (self ++ tag ∷ [])) None }
+        ensures { option_map tags_of result ≡ cond (nat_lt (length (tags_of self)) 8) (Some (tags_of self ++ tag ∷ [])) None }
     {
-        if self.count >= 8 {
+        let count = self.len();
+        if count >= 8 {
             return None;
         }
-        self.tags[self.count] = tag;
-        self.count += 1;
+        self.tags[count] = tag;
+        self.count = count + 1;
         Some(self)
     }
 }

@@ -121,6 +121,11 @@ every_added p n xs h is =
     (λ (e : among n xs ≡ false). rw e (list_all-append p xs (n ∷ []) ∙ and_from _ _ h (and_from _ _ is refl)))
     (cases_Bool (among n xs))
 
+-- a moment was added to the pins, or nothing changed
+pub every_either : (p : ℕ → Bool) (m : ℕ) (r : Bool) (xs pins : List ℕ) → (r ≡ true → pins ≡ added m xs) → (r ≡ false → pins ≡ xs) → list_all p xs ≡ true → p m ≡ true → list_all p pins ≡ true
+every_either p m r xs pins yes_way no_way h is =
+    ⊎_elim (λ e. ap (list_all p) (yes_way e) ∙ every_added p m xs h is) (λ e. ap (list_all p) (no_way e) ∙ h) (cases_Bool r)
+
 pub every_without : (p : ℕ → Bool) (m : ℕ) (xs pins : List ℕ) → pins ≡ without m xs → list_all p xs ≡ true → list_all p pins ≡ true
 every_without p m xs pins e h = ap (list_all p) e ∙ every_kept p (λ x. not (eqb x m)) xs h
 

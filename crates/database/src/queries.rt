@@ -29,7 +29,8 @@ pub fn matches_row(query: Query, row: Row) -> bool
     ensures { result ≡ matches query row }
 {
     match query {
-        Query::Get { id } => id.is_known() && id == row.id,
+        // The key first: most differ, where the tables of records that lie mixed are as often the same.
+        Query::Get { id } => id.key == row.id.key && id.is_known() && id == row.id,
         Query::Tally { table, state } => is_table(table)
             && table == row.id.table
             && state == row.value.state,

@@ -25,6 +25,7 @@ use Rattle.versions.proofs.Writing.{apart_changes}
 use Rattle.cache.specs.declared.entry.Entry.{Entry}
 use Rattle.cache.specs.declared.key.Key.{Key}
 use Rattle.cache.specs.Lists.{Among, Same}
+use Rattle.cache.specs.TagSets.{packed}
 use Rattle.cache.specs.Entries.{answers as covered, gives_way, closed}
 use Rattle.cache.specs.Calls.{Looks, Inserts, Closes}
 use Rattle.cache.proofs.Members.{among_map, among_mapped}
@@ -151,7 +152,7 @@ claiming = record {
 
 -- what it enters: no bag, from 0 on
 abbrev claim : Entry
-claim = record { key = record { sheet = 0; argument = 900 }; reading = None; interval = record { first = 0; until = Since 10 }; tags = ticket_tag ∷ [] }
+claim = record { key = record { sheet = 0; argument = 900 }; reading = None; interval = record { first = 0; until = Since 10 }; tags = packed (ticket_tag ∷ []) }
 
 abbrev fresh : ℕ → Transaction
 fresh number = tx_of number true [] []
@@ -306,7 +307,7 @@ tallying state = record {
 }
 
 abbrev tally : ℕ → Entry
-tally state = record { key = record { sheet = 0; argument = state }; reading = None; interval = record { first = 0; until = Since 10 }; tags = doors_tag ∷ [] }
+tally state = record { key = record { sheet = 0; argument = state }; reading = None; interval = record { first = 0; until = Since 10 }; tags = packed (doors_tag ∷ []) }
 
 -- sheet 1 after so many hits, without their tags
 abbrev counting : ℕ → Frame
@@ -318,7 +319,7 @@ counting hits = record {
 
 -- what it enters: no door free, none taken, and no tags
 abbrev counts : Entry
-counts = record { key = record { sheet = 1; argument = 0 }; reading = Some (0, 0); interval = record { first = 0; until = Since 10 }; tags = [] }
+counts = record { key = record { sheet = 1; argument = 0 }; reading = Some (0, 0); interval = record { first = 0; until = Since 10 }; tags = packed [] }
 
 -- the entries as the mistake takes them
 abbrev bare : List Entry → List Entry

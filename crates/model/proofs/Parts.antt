@@ -17,8 +17,9 @@ use Rattle.database.proofs.Readings.{reads_alike}
 use Rattle.cache.specs.declared.entry.Entry.{Entry}
 use Rattle.cache.specs.declared.key.Key.{Key}
 use Rattle.cache.specs.Lists.{Among}
-use Rattle.cache.specs.TagSets.{touched, few_tags, new_to}
+use Rattle.cache.specs.TagSets.{tags_of, touched, packed, few_tags, new_to}
 use Rattle.cache.specs.Entries.{covers, known_at, has_moment, accepts, accepted, closes, closed, ended_at, is_open, is_end}
+use Rattle.cache.proofs.Packs.{tags_of_packed}
 use Rattle.model.specs.Books.{Part, Row}
 use Rattle.model.specs.Rules.{through_t, hit_part, answer_part, settled_until, settled, bearing}
 use Rattle.model.specs.Traces.{Origin, Event, records_at, rows_of}
@@ -60,7 +61,7 @@ answer_claim o h db m k ans sound faithful hd answers =
 
 -- an entry is known through the later of T and its first moment
 abbrev pub entry_part : ℕ → Entry → Part
-entry_part T e = record { interval = record { first = e.interval.first; until = through_t (max T e.interval.first) e.interval.until }; tags = e.tags }
+entry_part T e = record { interval = record { first = e.interval.first; until = through_t (max T e.interval.first) e.interval.until }; tags = tags_of e.tags }
 
 same_through : (T S : ℕ) (u : Until) → ((t : ℕ) → u ≡ Open t → T ≡ S) → through_t T u ≡ through_t S u
 same_through T S (Ended e) f = refl
@@ -75,7 +76,7 @@ hit_claim o h db T m e P c claim =
     let parts = and_parts _ _ (and_parts _ _ c).1 in
     let l = leb-true e.interval.first m parts.0 in
     let same = same_through (max T e.interval.first) T e.interval.until (λ t is. covered_through T e.interval.first m e.interval.until t is l parts.1) in
-    let make : Until → Part = λ u. record { interval = record { first = e.interval.first; until = u }; tags = e.tags } in
+    let make : Until → Part = λ u. record { interval = record { first = e.interval.first; until = u }; tags = tags_of e.tags } in
     subst (λ part. Claim o h db part P) (ap make same) claim
 
 -- a moment that an entry covers is one of the hit's part
@@ -119,9 +120,9 @@ pub enter_claim : (o : Origin) (h : List Event) (db : Db) (T : ℕ) (part : Part
 enter_claim o h db T part key reading e P past forward is claim =
     ⊎_elim
     (λ (ok : accepts key (settled T part).interval (settled T part).tags ≡ true).
-    let new : Entry = record { key = key; reading = reading; interval = (settled T part).interval; tags = (settled T part).tags } in
+    let new : Entry = record { key = key; reading = reading; interval = (settled T part).interval; tags = packed (settled T part).tags } in
     let few = leb-true (length (settled T part).tags) 8 (and_parts (leb (length (settled T part).tags) 8) (new_to [] (settled T part).tags) (and_parts (has_moment (settled T part).interval) (few_tags (settled T part).tags) (and_parts (ltb key.sheet 255) (has_moment (settled T part).interval && few_tags (settled T part).tags) ok).1).1).0 in
-    let own : new.tags ≡ (settled T part).tags = refl in
+    let own = tags_of_packed (settled T part).tags few in
     let same : new ≡ e = same_Some new e (sym (cond-true (accepts key (settled T part).interval (settled T part).tags) _ _ ok) ∙ is) in
     let settled-claim = settle_part o h db T part.interval.first part.interval.until part.tags P past forward claim in
     let make : List Tag → Part = λ tags. record { interval = record { first = part.interval.first; until = through_t (max T part.interval.first) (settled T part).interval.until }; tags = tags } in
@@ -152,8 +153,8 @@ comes_to_closed (row ∷ rows) n e =
     ⊎_elim
     (λ (c : closes row.tag n e ≡ true).
     let here : closed row.tag n e ≡ ended_at n e = cond-true (closes row.tag n e) _ _ c in
-    let parts = and_parts (is_open e.interval.until) (ltb e.interval.first n && touched row.tag e.tags) (and_parts (is_end n) (is_open e.interval.until && (ltb e.interval.first n && touched row.tag e.tags)) c).1 in
-    let first = ltb-true e.interval.first n (and_parts (ltb e.interval.first n) (touched row.tag e.tags) parts.1).0 in
+    let parts = and_parts (is_open e.interval.until) (ltb e.interval.first n && touched row.tag (tags_of e.tags)) (and_parts (is_end n) (is_open e.interval.until && (ltb e.interval.first n && touched row.tag (tags_of e.tags))) c).1 in
+    let first = ltb-true e.interval.first n (and_parts (ltb e.interval.first n) (touched row.tag (tags_of e.tags)) parts.1).0 in
     subst (ComesTo (row ∷ rows) n e) (sym (ap (closed_all rows n) here ∙ ended_stays rows n (ended_at n e) refl)) (ends parts.0 first))
     (λ (c : closes row.tag n e ≡ false).
     let here : closed row.tag n e ≡ e = cond-false (closes row.tag n e) _ _ c in
@@ -174,17 +175,17 @@ entry_ends o h db T e P past op first c = record {
   within = omega arith;
   begins = c.begins;
   rests = tt;
-  holds = λ m hd l less. open_here o h e.interval.until (max T e.interval.first) m e.tags P op (omega arith) (c.holds m hd l);
+  holds = λ m hd l less. open_here o h e.interval.until (max T e.interval.first) m (tags_of e.tags) P op (omega arith) (c.holds m hd l);
 }
 
 abbrev Spared : Origin → List Event → ℕ → Entry → Type 0
 Spared o h n e = (row : Row) → Among row (rows_of o h) → row.moment ≡ n → closes row.tag n e ≡ false
 
-not_touched : (n : ℕ) (tag : Tag) (e : Entry) → n ≤ highest → is_open e.interval.until ≡ true → e.interval.first < n → closes tag n e ≡ false → touched tag e.tags ≡ false
+not_touched : (n : ℕ) (tag : Tag) (e : Entry) → n ≤ highest → is_open e.interval.until ≡ true → e.interval.first < n → closes tag n e ≡ false → touched tag (tags_of e.tags) ≡ false
 not_touched n tag e top op first c = grind (arith, nat_tests)
 
 goes_at : (o : Origin) (h : List Event) (T m : ℕ) (e : Entry) (u : Until) (P : Records → Type 0) → e.interval.until ≡ u → T + 1 ≤ highest → Spared o h (T + 1) e
-    → ClaimAt o h e.tags (through_t (max T e.interval.first) u) m P → ClaimAt o h e.tags (through_t (max (T + 1) e.interval.first) u) m P
+    → ClaimAt o h (tags_of e.tags) (through_t (max T e.interval.first) u) m P → ClaimAt o h (tags_of e.tags) (through_t (max (T + 1) e.interval.first) u) m P
 goes_at o h T m e (Ended x) P is top spared c = c
 goes_at o h T m e (Open t) P is top spared c = λ un z agree.
     c (λ row in-it a k. ⊎_elim
@@ -206,7 +207,7 @@ entry_goes : (o : Origin) (h : List Event) (db : Db) (T : ℕ) (e : Entry) (P : 
 entry_goes o h db T e P past top spared c = record {
   within = goes_within (max T e.interval.first) (max (T + 1) e.interval.first) e.interval.first db.latest e.interval.until c.within;
   begins = c.begins;
-  rests = goes_rests T e.interval.first db.latest e.interval.until e.tags past c.begins;
+  rests = goes_rests T e.interval.first db.latest e.interval.until (tags_of e.tags) past c.begins;
   holds = λ m hd l. goes_at o h T m e e.interval.until P refl (omega arith) spared (c.holds m hd l);
 }
 

@@ -8,7 +8,7 @@ use Rattle.database.specs.declared.Answer.{Answer}
 use Rattle.database.specs.Lists.{among, added}
 use Rattle.database.specs.Databases.{Db, Pinned, Unpins}
 use Rattle.cache.specs.declared.entry.Entry.{Entry}
-use Rattle.cache.specs.TagSets.{has_tag}
+use Rattle.cache.specs.TagSets.{tags_of, has_tag}
 use Rattle.model.specs.Books.{Pin, Part, Frame, Transaction, moments, newest_of, time_of}
 
 -- a pin is fresh if its time and the limit together are not below now
@@ -117,7 +117,7 @@ through_t T (Ended e) = Ended e
 through_t T (Open t) = Open T
 
 abbrev pub hit_part : ℕ → Entry → Part
-hit_part T entry = record { interval = record { first = entry.interval.first; until = through_t T entry.interval.until }; tags = entry.tags }
+hit_part T entry = record { interval = record { first = entry.interval.first; until = through_t T entry.interval.until }; tags = tags_of entry.tags }
 
 -- a queried answer bears its one tag
 abbrev pub answer_part : Answer → Part

@@ -12,6 +12,7 @@ use Rattle.database.specs.declared.Answer.{Answer}
 use Rattle.versions.specs.Versions.{state_at}
 use Rattle.versions.specs.Stores.{Store, empty_at, pinned, written, answer_at}
 use Rattle.cache.specs.declared.entry.Entry.{Entry}
+use Rattle.cache.specs.TagSets.{packed}
 use Rattle.cache.specs.Calls.{Looks}
 use Rattle.recipe.specs.Recipes.{Gives}
 use Rattle.recipe.specs.Sheets.{attendant, board}
@@ -47,7 +48,7 @@ told query reading first until = record { reading = reading; tag = query_tag que
 
 -- an entry without tags
 abbrev pub entry_of : Reading → ℕ → Until → Entry
-entry_of reading first until = record { key = record { sheet = 0; argument = 0 }; reading = reading; interval = record { first = first; until = until }; tags = [] }
+entry_of reading first until = record { key = record { sheet = 0; argument = 0 }; reading = reading; interval = record { first = first; until = until }; tags = packed [] }
 
 abbrev pub pin_of : ℕ → ℕ → Pin
 pin_of moment time = record { moment = moment; time = time; uses = 0 }

@@ -9,6 +9,7 @@ use Rattle.database.specs.Databases.{Sound}
 use Rattle.versions.specs.Stores.{Store, empty_at, meaning}
 use Rattle.cache.specs.declared.entry.Entry.{Entry}
 use Rattle.cache.specs.Lists.{Among}
+use Rattle.cache.specs.TagSets.{packed}
 use Rattle.recipe.specs.declared.Ask.{Ask}
 use Rattle.recipe.specs.declared.Ask.TheVariants.{Query as Asked, Call as Called, Done}
 use Rattle.recipe.specs.Recipes.{Rules}
@@ -72,7 +73,7 @@ abbrev pub with_entries : List Entry → Hall → Hall
 with_entries entries hall = record { db = hall.db; entries = entries; books = hall.books }
 
 abbrev pub untagged : Entry → Entry
-untagged entry = record { key = entry.key; reading = entry.reading; interval = entry.interval; tags = [] }
+untagged entry = record { key = entry.key; reading = entry.reading; interval = entry.interval; tags = packed [] }
 
 -- an open entry counts beyond T: it is looked up, and the set narrowed, as if every message were delivered
 abbrev pub beyond_t : Mistake

@@ -18,7 +18,7 @@ module _ (wanted : LookUp) where
   hit e m = answers wanted.key wanted.delivered e m ≡ true
 
   -- the best so far: no entry answers a listed moment above that which is found
-  abbrev Leads : List Entry → Option Found → Type 0
+  abbrev pub Leads : List Entry → Option Found → Type 0
   Leads es None = LooksUp es wanted None
   Leads es (Some found) =
       (found.place < length es)
@@ -29,7 +29,7 @@ module _ (wanted : LookUp) where
   at_last : (e x : Entry) (m : ℕ) → e ≡ x → hit e m → hit x m
   at_last e x m is t = subst (λ (y : Entry). hit y m) is t
 
-  leads_push : (es : List Entry) (best : Option Found) (x : Entry) (newest : Option ℕ) → Leads es best → Newest (answers wanted.key wanted.delivered x) wanted.moments.now newest → Leads (es ++ x ∷ []) (better best (length es) newest)
+  pub leads_push : (es : List Entry) (best : Option Found) (x : Entry) (newest : Option ℕ) → Leads es best → Newest (answers wanted.key wanted.delivered x) wanted.moments.now newest → Leads (es ++ x ∷ []) (better best (length es) newest)
   leads_push es None x None h k = λ e a m b t.
       ⊎_elim (λ l. h e l m b t) (λ is. k m b (at_last e x m is t)) (among_push e es x a)
   leads_push es (Some found) x None h k = (
@@ -72,7 +72,7 @@ module _ (wanted : LookUp) where
       (leads_fold (es ++ x ∷ []) fs (n + 1) (better so_far n (newest_of wanted x)) (omega (arith, length_push es x))
       (subst (λ (j : ℕ). Leads (es ++ x ∷ []) (better so_far j (newest_of wanted x))) (sym is) pushed))
 
-  leads_all : (es : List Entry) (found : Option Found) → found ≡ fold step None (enumerate_from 0 es) → Leads es found
+  pub leads_all : (es : List Entry) (found : Option Found) → found ≡ fold step None (enumerate_from 0 es) → Leads es found
   leads_all es found is = subst (λ (o : Option Found). Leads es o) (sym is) (leads_fold [] es 0 None refl (λ e a m b t. a))
 
   pub best_none : (es : List Entry) → None ≡ fold step None (enumerate_from 0 es) → Finds es wanted None

@@ -5,7 +5,7 @@ use Rattle.std.proofs.lemmas.Bool.{cases_lt}
 use Rattle.std.specs.List.{slice_rotate_right}
 
 -- the order of the entries after a hit, in the places of the table and in the entries
-take_raise : {X : Type 0} (h : X) (xs : List X) (place n : ℕ) → place < length (take n xs) → take n (h ∷ (take place xs ++ drop (suc place) xs)) ≡ h ∷ (take place (take n xs) ++ drop (suc place) (take n xs))
+pub take_raise : {X : Type 0} (h : X) (xs : List X) (place n : ℕ) → place < length (take n xs) → take n (h ∷ (take place xs ++ drop (suc place) xs)) ≡ h ∷ (take place (take n xs) ++ drop (suc place) (take n xs))
 take_raise h [] place zero k = let no : ⊥ = omega arith in absurd no
 take_raise h [] place (suc n) k = let no : ⊥ = omega arith in absurd no
 take_raise h (x ∷ xs) place zero k = let no : ⊥ = omega arith in absurd no

@@ -40,6 +40,11 @@ fn number(found: Option<Entry>) -> u32 {
         .map_or(0, |(number, _)| number)
 }
 
+// Whether an entry covers the one moment and has ended by the other. It is passed by value twice, so it has to be copied.
+fn lasts_until(entry: Entry, last: Moment, end: Moment) -> bool {
+    entry.covers(last, 0) && entry.is_ended_by(end)
+}
+
 // Whether an insert into an empty node is found again at the moment.
 fn keeps(sheet: u8, interval: Interval, tags: &[Tag], moment: Moment) -> Result<bool, Fault> {
     let mut table = [Entry::blank(); 2];
@@ -143,4 +148,12 @@ fn throws_out(rt: HostRuntime) -> Result<(), Fault> {
     node.insert(offer(5, Interval::ended(7, 8), &[]));
     assert_eq!(rt; number(node.look_up(ask(&[2, 3], 9))), 2);
     Ok(())
+}
+
+#[test]
+fn entries_are_copied(rt: HostRuntime) {
+    let entry = offer(5, Interval::ended(3, 9), &[tag(4)]).accepted();
+    assert_eq!(rt; entry.map(|entry| lasts_until(entry, 8, 9)), Some(true));
+    assert_eq!(rt; entry.map(|entry| lasts_until(entry, 9, 9)), Some(false));
+    assert_eq!(rt; entry.map(|entry| lasts_until(entry, 8, 8)), Some(false));
 }

@@ -50,7 +50,7 @@ no_answers p s e (suc n) q r ts h x = omega (arith, h)
 no_answers p s e zero q r ts h x = elim x [ ]
 
 -- a fault of the sheet called is one of the sheet that calls it
-passed_on : {U N W N' W' : Type 0} {fault : Fault} → (N → N') → (W → W') → Fails U N W fault → Fails U N' W' fault
+pub passed_on : {U N W N' W' : Type 0} {fault : Fault} → (N → N') → (W → W') → Fails U N W fault → Fails U N' W' fault
 passed_on n w (inl unheld) = inl unheld
 passed_on n w (inr (inl within)) = inr (inl (w within.0, within.1))
 passed_on n w (inr (inr none)) = inr (inr (n none.0, none.1))
@@ -143,11 +143,11 @@ begins db p m sheet argument depth h = record { there = h; upto = omega arith; o
 two_left : (used : ℕ) → used < 31 → 32 - used ≡ suc (suc (30 - used))
 two_left used h = omega arith
 
-stops : {db : Db} {p : Rules} {m sheet argument depth used : ℕ} {q : Point} {result : Result Reading Fault} → used < 31 → At db p m sheet argument depth used q
+pub stops : {db : Db} {p : Rules} {m sheet argument depth used : ℕ} {q : Point} {result : Result Reading Fault} → used < 31 → At db p m sheet argument depth used q
     → Works db p m depth (suc (suc (30 - used))) q result → WorksOut db p m sheet argument depth result
 stops {db} {p} {m} {depth = depth} {used} {q} {result} h at x = inr (at.there, at.onward result (subst (λ n. Works db p m depth n q result) (sym (two_left used h)) x))
 
-goes_on : (db : Db) (p : Rules) (m sheet argument depth used : ℕ) (q : Point) (turn : Turn) (last : Reading) → used < 31 → turn ≡ p.turn q → At db p m sheet argument depth used q
+pub goes_on : (db : Db) (p : Rules) (m sheet argument depth used : ℕ) (q : Point) (turn : Turn) (last : Reading) → used < 31 → turn ≡ p.turn q → At db p m sheet argument depth used q
     → ((result : Result Reading Fault) → Works db p m depth (suc (30 - used)) (after (p.turn q) q last) result → Works db p m depth (suc (suc (30 - used))) q result)
     → At db p m sheet argument depth (used + 1) (after turn q last)
 goes_on db p m sheet argument depth used q turn last h e at one = record {
@@ -164,7 +164,7 @@ asks : {turn other : Turn} {ask : Ask} → turn ≡ other → turn.ask ≡ ask �
 asks e f = sym (ap (λ t. t.ask) e) ∙ f
 
 -- a fault that is handed on
-handed_on : (result : Result Reading Fault) {fault : Fault} → IsErrAnd result (λ f. f ≡ fault) → result ≡ Err fault
+pub handed_on : (result : Result Reading Fault) {fault : Fault} → IsErrAnd result (λ f. f ≡ fault) → result ≡ Err fault
 handed_on (Ok reading) none = absurd none
 handed_on (Err f) same = ap (λ (x : Fault). Err x) same
 

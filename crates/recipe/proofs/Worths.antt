@@ -20,7 +20,7 @@ use Rattle.recipe.proofs.Stepping.{evaluates}
 use Rattle.recipe.proofs.Runs.{same_end, clash_done, clash_call, clash_query, query_one, call_sheet, call_argument}
 
 -- a sheet that has a value within the depth fails only where the moment is not held
-unheld : (db : Db) (p : Rules) (m sheet argument depth : ℕ) (fault : Fault)
+pub unheld : (db : Db) (p : Rules) (m sheet argument depth : ℕ) (fault : Fault)
     → (held db m ≡ true → (r : Reading) × GivesWithin p (db.at m) depth sheet argument r)
     → Fails (held db m ≡ false) ((r : Reading) → Gives p (db.at m) sheet argument r → ⊥) ((r : Reading) → GivesWithin p (db.at m) depth sheet argument r → ⊥) fault
     → held db m ≡ false
@@ -98,7 +98,7 @@ tally_none : (s : Records) (argument d n : ℕ) (r : Reading) (ts : List Tag) �
 tally_none s argument d n r ts e run =
     let end : Runs board s 0 1 (start 0 argument) None [] = done {left = 0} (ap (λ t. t.ask) (none_turn argument e)) in same_end run end
 
-tally_worth : (s : Records) (argument d n : ℕ) (r : Reading) (ts : List Tag) → Runs board s d n (start 0 argument) r ts → TallyOf s argument r
+pub tally_worth : (s : Records) (argument d n : ℕ) (r : Reading) (ts : List Tag) → Runs board s d n (start 0 argument) r ts → TallyOf s argument r
 tally_worth s argument d n r ts run = let query = tally_query s argument d n r ts in let none = tally_none s argument d n r ts in grind (arith, nat_tests)
 
 pub tally_runs : (s : Records) (argument d : ℕ) (keys : List ℕ) → leb argument 255 ≡ true → KeysIn s 0 argument keys → Ends board s d 32 (start 0 argument) (tallied keys)
@@ -108,7 +108,7 @@ tally_runs s argument d keys e told = (
       (subst (λ t. Runs board s d 31 (after t (start 0 argument) (tallied keys)) (tallied keys) []) (sym (tally_turn_is argument e)) (done {left = 30} refl)),
 )
 
-tally_exists : (db : Db) (m argument : ℕ) → Sound db → held db m ≡ true → (r : Reading) × GivesWithin board (db.at m) 0 0 argument r
+pub tally_exists : (db : Db) (m argument : ℕ) → Sound db → held db m ≡ true → (r : Reading) × GivesWithin board (db.at m) 0 0 argument r
 tally_exists db m argument sound h =
     let keys = sound.listed m 0 argument h in
     ⊎_elim
@@ -145,13 +145,13 @@ counts_second s d n v r ts reads (call {depth = e} {inner = ws} sh a u f there x
       both = same_end y end;
     }
 
-counts_worth : (s : Records) (d n : ℕ) (r : Reading) (ts : List Tag) → Runs board s d n (start 1 0) r ts → CountsOf s r
+pub counts_worth : (s : Records) (d n : ℕ) (r : Reading) (ts : List Tag) → Runs board s d n (start 1 0) r ts → CountsOf s r
 counts_worth s d n r ts (done f) = absurd (clash_call refl f)
 counts_worth s d n r ts (query k v f known reads x) = absurd (clash_query refl f)
 counts_worth s d n r ts (call {depth = e} {left = m} {tags = us} {inner = ws} sh a v f there x y) =
     counts_second s (suc e) m v r us (inner_tally s e sh a 0 v ws refl (call_sheet f refl) (call_argument f refl) x) y
 
-counts_exists : (db : Db) (m : ℕ) → Sound db → held db m ≡ true → (r : Reading) × GivesWithin board (db.at m) 1 1 0 r
+pub counts_exists : (db : Db) (m : ℕ) → Sound db → held db m ≡ true → (r : Reading) × GivesWithin board (db.at m) 1 1 0 r
 counts_exists db m sound h =
     let free = sound.listed m 0 0 h in
     let taken = sound.listed m 0 1 h in (

@@ -8,6 +8,7 @@ use Rattle.cache.specs.declared.entry.Entry.{Entry}
 use Rattle.cache.specs.declared.key.Key.{Key}
 use Rattle.cache.specs.Keys.{is_key}
 use Rattle.cache.specs.Lists.{Among}
+use Rattle.cache.specs.TagSets.{packed}
 use Rattle.cache.specs.Entries.{accepts, accepted, covers}
 use Rattle.cache.specs.Calls.{Looks, Inserts, Enters}
 use Rattle.split.specs.Halves.{seen}
@@ -34,7 +35,7 @@ module _ (moment delivered : ℕ) where
 
   pub only_seen : (key : Key) (reading : Reading) (interval : Interval) (tags : List Tag) (es fs : List Entry) (r : Option Entry) → es ≡ [] → Enters es (accepted key reading interval tags) fs → Looks fs key (moment ∷ []) delivered r → r ≡ seen delivered moment (accepted key reading interval tags)
   only_seen key reading interval tags es fs r none =
-      let e : Entry = record { key = key; reading = reading; interval = interval; tags = tags } in
+      let e : Entry = record { key = key; reading = reading; interval = interval; tags = packed tags } in
       cond_both (accepts key interval tags) (Some e) None
       (λ (new : Option Entry). Enters es new fs → Looks fs key (moment ∷ []) delivered r → r ≡ seen delivered moment new)
       (λ _ ins h. one_entry e fs r (subst (λ (l : List Entry). Inserts l e fs) none ins) h)

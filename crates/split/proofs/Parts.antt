@@ -10,6 +10,7 @@ use Rattle.cache.specs.declared.entry.Entry.{Entry}
 use Rattle.cache.specs.declared.key.Key.{Key}
 use Rattle.cache.specs.Keys.{is_key}
 use Rattle.cache.specs.Lists.{Among, Same}
+use Rattle.cache.specs.TagSets.{packed}
 use Rattle.cache.specs.Entries.{accepts, accepted, offered, answers, covers, gives_way, share_moment, closed}
 use Rattle.cache.specs.Calls.{Looks, LooksUp, Inserts, Enters, Closes, Drops, Sound}
 use Rattle.cache.proofs.Members.{among_append, among_left, among_right, among_kept, kept_among}
@@ -109,7 +110,7 @@ module _ {side : Key → Bool} {gs vs hs ws : List Entry} (part : Part side gs v
 
   pub part_enters : (key : Key) (reading : Reading) (interval : Interval) (tags : List Tag) → side key ≡ true → (hs ≡ gs → ws ≡ vs) → Enters gs (accepted key reading interval tags) hs → Enters vs (accepted key reading interval tags) ws
   part_enters key reading interval tags on unchanged =
-      cond_both (accepts key interval tags) (Some (record { key = key; reading = reading; interval = interval; tags = tags })) None
+      cond_both (accepts key interval tags) (Some (record { key = key; reading = reading; interval = interval; tags = packed tags })) None
       (λ (new : Option Entry). Enters gs new hs → Enters vs new ws)
       (λ _ ins. part_inserts _ on ins)
       (λ _ is. unchanged is)

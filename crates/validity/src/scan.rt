@@ -80,7 +80,8 @@ impl Scan {
         self.floor.is_none_or(|floor| floor < version.made)
     }
 
-    // The scan with one more version.
+    // The scan with one more version. Inlined, so that a pass keeps its scan in registers.
+    #[inline]
     pub fn with(self, version: Version) -> Scan
         ensures { result ≡ scanned version self }
     {
@@ -101,12 +102,15 @@ impl Scan {
     }
 
     // The scan with some more versions. A `for`, and no fold: the search does not see through a pass in a fold's closure.
+    // What does not match is passed over here already, so that it is not copied.
     pub fn with_all(self, versions: &[Version]) -> Scan
         ensures { result ≡ scanned_all versions.now self }
     {
         let mut scan = self;
         for version in versions {
-            scan = scan.with(*version);
+            if matches_row(scan.query, version.row) {
+                scan = scan.with(*version);
+            }
         }
         scan
     }

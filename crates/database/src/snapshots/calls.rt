@@ -82,12 +82,14 @@ impl Snapshots {
     }
 
     // The moment after the latest becomes the latest, and is answered; at the highest nothing changes.
+    #[tactic(auto, using(crate::proofs::Sets::past_later))]
     pub fn advance(&mut self) -> Moment
         ensures latest { self.new.latest ≡ min (self.old.latest + 1) highest }
         ensures answer { result ≡ self.new.latest }
         ensures pins { self.new.pins ≡ self.old.pins }
     {
-        self.latest = after(self.latest);
-        self.latest
+        let moment = after(self.latest);
+        self.latest = moment;
+        moment
     }
 }
